@@ -1,0 +1,10 @@
+//! Items of texts, and a grammar made of parts: what both readers share.
+#![tactic(auto)]
+
+mod fault;
+mod item;
+mod tokens;
+
+pub use fault::{Form, Kind, ReadError};
+pub use item::{Item, Symbol, Token};
+pub use tokens::{Tokens, same};
