@@ -51,9 +51,16 @@ fn widths_of_the_table(rt: HostRuntime) -> Result<(), Fail> {
                 None => nums.push(read_number(word.as_bytes()).ok_or("no number")?)?,
             }
         }
-        assert!(rt; widths.len() == op.operands() && nums.len() == op.numbers(), "at {line}");
+        assert!(rt;
+            widths.len() == op.operands() && nums.len() == op.numbers(),
+            "at {line}"
+        );
         assert!(rt; widths.iter().all(|w| *w <= 129), "at {line}");
-        assert_eq!(rt; result_width(op, signed, &widths, &nums), wanted.parse::<u8>()?, "at {line}");
+        assert_eq!(rt;
+            result_width(op, signed, &widths, &nums),
+            wanted.parse::<u8>()?,
+            "at {line}"
+        );
         tried = tried.saturating_add(1);
     }
     assert_eq!(rt; tried, 72);
@@ -149,9 +156,13 @@ fn texts_that_grow(rt: HostRuntime) -> Result<(), Fail> {
     put_decimals(rt.alloc(), &mut out, b", ", false, &[3, 4])?;
     put_decimals(rt.alloc(), &mut out, b", ", false, &[])?;
     put(&mut out, b" at ")?;
-    let place = Place { line: 3, column: 14 };
+    let place = Place {
+        line: 3,
+        column: 14,
+    };
     put_place(rt.alloc(), &mut out, place)?;
-    let wanted = b"n = 340282366920938463463374607431768211455; 0, 10, 200, 3, 4 at line 3 column 14";
+    let wanted =
+        b"n = 340282366920938463463374607431768211455; 0, 10, 200, 3, 4 at line 3 column 14";
     assert_eq!(rt; out.as_slice(), wanted.as_slice());
     assert_eq!(rt; place.to_string(rt.alloc())?.as_str(), "line 3 column 14");
     assert_eq!(rt; Memory.to_string(rt.alloc())?.as_str(), "out of memory");
@@ -176,7 +187,10 @@ fn bits_at_another_width(rt: HostRuntime) -> Result<(), Fail> {
     let wide = Width::new(128).ok_or("no width")?;
     assert_eq!(rt; Width::new(129), None);
     let least = Bits::new(narrow, true, 0x18);
-    assert_eq!(rt; (least.width().get(), least.signed(), least.raw()), (4, true, 8));
+    assert_eq!(rt;
+        (least.width().get(), least.signed(), least.raw()),
+        (4, true, 8)
+    );
     assert_eq!(rt; (least.is_negative(), least.magnitude()), (true, 8));
     assert_eq!(rt; least.word(), u128::MAX - 7);
     assert_eq!(rt; least.fit(wide).raw(), u128::MAX - 7);
