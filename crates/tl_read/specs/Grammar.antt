@@ -1,5 +1,5 @@
 -- The grammar of test texts in the first form.
-use Rattle.std.specs.Prelude.{ℕ, Bool, ◌||◌, List, codes}
+use Rattle.std.specs.Prelude.{Bool, ◌||◌, List, codes}
 use Rattle.text_grammar.specs.declared.item.Item.{Item}
 use Rattle.text_grammar.specs.declared.item.Symbol.TheVariants as s
 use Rattle.text_grammar.specs.Part.{Part, both, first, second, after, either, many}
