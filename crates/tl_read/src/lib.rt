@@ -7,9 +7,11 @@
 mod form;
 mod lex;
 mod read;
+#[cfg(test)]
+mod tests;
 mod tree;
 
 pub use form::FormFault;
 pub use lex::items;
-pub use read::{one_test, read_test};
+pub use read::{examples, one_test, read_test};
 pub use tree::{TestStmt, TestText};

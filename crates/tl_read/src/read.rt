@@ -1,10 +1,13 @@
 //! Reads the items of a test by its grammar, one function for each part.
 
-ghost use Rattle.std.specs.Prelude.{◌≡◌, ◌<◌, ◌≤◌, ◌-◌, ◌^◌, ◌↔◌, ℕ, List, Some, None, length, IfOk, IfErr};
+ghost use Rattle.std.specs.Prelude.{◌≡◌, ◌<◌, ◌≤◌, ◌-◌, ◌^◌, ◌↔◌, ℕ, List, Some, None, length, IfOk, IfErr, codes, [], ◌∷◌};
 ghost use Rattle.text_grammar.specs.Part.{Reads, starts, whole};
+ghost use Rattle.text_grammar.specs.Terminals.{mark};
+ghost use Rattle.text_grammar.specs.declared.item.Symbol.TheVariants as s;
 ghost use Rattle.tl_read.specs.Grammar as g;
 ghost use Rattle.tl_read.specs.TestForm.{spells_test, test_of, FaultOf};
 ghost use Rattle.tl_read.specs.declared.tree.TestText.{TestText};
+ghost use Rattle.tl_read.specs.declared.tree.TestStmt.TheVariants as st;
 
 use crate::form::FormFault;
 use crate::lex::items;
@@ -12,6 +15,13 @@ use crate::tree::{TestStmt, TestText};
 use std::alloc::Global;
 use tb_base::{Memory, Seq};
 use text_grammar::{ReadError, Symbol, Tokens};
+
+/// The semicolon that ends a statement.
+fn end(tokens: &mut Tokens<'_>) -> Result<(), ReadError>
+    ensures { Reads ((mark s.Semicolon).reads tokens.old) result tokens.new }
+{
+    tokens.mark(Symbol::Semicolon)
+}
 
 #[tactic(auto, unfolding(crate::specs::Grammar::poke, text_grammar::specs::Part::after, text_grammar::specs::Part::both))]
 fn poke(alloc: Global, tokens: &mut Tokens<'_>) -> Result<TestStmt, ReadError>
@@ -21,7 +31,7 @@ fn poke(alloc: Global, tokens: &mut Tokens<'_>) -> Result<TestStmt, ReadError>
     let port = tokens.name(alloc)?;
     tokens.mark(Symbol::Equal)?;
     let value = tokens.number()?;
-    tokens.mark(Symbol::Semicolon)?;
+    end(tokens)?;
     Ok(TestStmt::Poke { line, port, value })
 }
 
@@ -31,7 +41,7 @@ fn peek(alloc: Global, tokens: &mut Tokens<'_>) -> Result<TestStmt, ReadError>
 {
     let line = tokens.leading(b"peek")?;
     let port = tokens.name(alloc)?;
-    tokens.mark(Symbol::Semicolon)?;
+    end(tokens)?;
     Ok(TestStmt::Peek { line, port })
 }
 
@@ -43,7 +53,7 @@ fn expect(alloc: Global, tokens: &mut Tokens<'_>) -> Result<TestStmt, ReadError>
     let port = tokens.name(alloc)?;
     tokens.mark(Symbol::EqualEqual)?;
     let value = tokens.number()?;
-    tokens.mark(Symbol::Semicolon)?;
+    end(tokens)?;
     Ok(TestStmt::Expect { line, port, value })
 }
 
@@ -53,7 +63,7 @@ fn step(tokens: &mut Tokens<'_>) -> Result<TestStmt, ReadError>
 {
     let line = tokens.leading(b"step")?;
     tokens.the_number(1)?;
-    tokens.mark(Symbol::Semicolon)?;
+    end(tokens)?;
     Ok(TestStmt::Step { line })
 }
 
@@ -130,6 +140,14 @@ pub fn read_test(alloc: Global, text: &[u8]) -> Result<TestText, FormFault>
         Err(ReadError::At(_, _)) => Err(FormFault::NotInForm),
     }
 }
+
+/// Examples: white space and leading zeros are free, a statement has the line of its first token, and a step has the count 1.
+pub fn examples()
+    ensures three { test_of (codes "poke a = 3;\nexpect out==07; step\n01;") ≡ Some (record { body = st.Poke 1 (codes "a") 3 ∷ st.Expect 2 (codes "out") 7 ∷ st.Step 2 ∷ [] }) }
+    ensures empty { test_of [] ≡ Some (record { body = [] }) }
+    ensures two_steps { test_of (codes "step 2;") ≡ None }
+    ensures no_end { test_of (codes "peek a") ≡ None }
+{}
 
 /// A law: a text spells at most one test, and `test_of` gives it.
 pub fn one_test()
