@@ -43,6 +43,7 @@ pub enum ReadError {
     /// A fault, and how many items are left from the faulty one on: 0 at the end of the items.
     At(Kind, usize),
 }
+
 impl From<AllocError> for ReadError {
     ghost use Rattle.std.specs.Prelude.{◌≡◌};
     ghost use Rattle.text_grammar.specs.declared.fault.ReadError.TheVariants.{Memory};

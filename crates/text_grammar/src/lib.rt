@@ -12,6 +12,8 @@
 mod fault;
 mod item;
 pub mod lex;
+#[cfg(test)]
+mod tests;
 mod tokens;
 
 pub use fault::{Form, Kind, ReadError};
