@@ -8,27 +8,67 @@ use crate::fault::{Form, Kind};
 use crate::tokens::same;
 use tb_base::{Name, Place};
 
+/// The symbols of both languages. Each language takes some of them.
 #[derive(Clone, Copy, Debug, PartialEq, Eq)]
 pub enum Symbol {
+    /// `<=`
     LessEqual,
+    /// `=>`
     Arrow,
+    /// `<-`
     LeftArrow,
+    /// `<`
     Less,
+    /// `>`
     Greater,
+    /// `(`
     OpenParen,
+    /// `)`
     CloseParen,
+    /// `[`
     OpenBracket,
+    /// `]`
     CloseBracket,
+    /// `{`
     OpenBrace,
+    /// `}`
     CloseBrace,
+    /// `:`
     Colon,
+    /// `,`
     Comma,
+    /// `.`
     Dot,
+    /// `=`
     Equal,
+    /// `-`
     Minus,
+    /// `%`
     Percent,
     /// The end of a logical line.
     LineEnd,
+    /// `==`
+    EqualEqual,
+    /// `!=`
+    NotEqual,
+    /// `>=`
+    GreaterEqual,
+    /// `<<`
+    ShiftLeft,
+    /// `>>`
+    ShiftRight,
+    /// `+`
+    Plus,
+    /// `*`
+    Star,
+    /// `&`
+    And,
+    /// `|`
+    Or,
+    /// `^`
+    Xor,
+    /// `;`
+    Semicolon,
 }
 
 #[derive(Debug, Drop)]
@@ -81,6 +121,15 @@ impl Item {
         ensures { result ≡ t.is_number self.now }
     {
         matches!(&self.token, Token::Number(_))
+    }
+
+    pub fn is_the_number(&self, number: u128) -> bool
+        ensures { result ≡ t.is_the_number number self.now }
+    {
+        match &self.token {
+            Token::Number(found) => *found == number,
+            _ => false,
+        }
     }
 
     /// Why it is refused, where it is.

@@ -3,6 +3,7 @@
 
 mod fault;
 mod item;
+pub mod lex;
 mod tokens;
 
 pub use fault::{Form, Kind, ReadError};

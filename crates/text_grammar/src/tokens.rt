@@ -105,6 +105,21 @@ impl<'a> Tokens<'a> {
         }
     }
 
+    /// Takes the word that leads a row, and gives its line.
+    #[tactic(auto, unfolding(crate::specs::Terminals::leading, crate::specs::Part::one_by))]
+    pub fn leading(&mut self, text: &[u8]) -> Result<u32, ReadError>
+        ensures { Reads ((t.leading text.now).reads self.old) result self.new }
+    {
+        match self.items {
+            [first, rest @ ..] if first.is_word(text) => {
+                let line = first.place.line;
+                self.items = rest;
+                Ok(line)
+            }
+            _ => Err(self.refuse()),
+        }
+    }
+
     #[tactic(auto, using(crate::proofs::Reading::flag_taken, crate::proofs::Reading::flag_refused))]
     pub fn mark(&mut self, symbol: Symbol) -> Result<(), ReadError>
         ensures { Reads ((t.mark symbol).reads self.old) result self.new }
@@ -134,6 +149,28 @@ impl<'a> Tokens<'a> {
                 Ok(name)
             }
             _ => Err(self.refuse()),
+        }
+    }
+
+    /// Takes this number, however it is written.
+    #[tactic(auto, using(crate::proofs::Reading::flag_taken, crate::proofs::Reading::flag_refused))]
+    pub fn the_number(&mut self, number: u128) -> Result<(), ReadError>
+        ensures { Reads ((t.the_number number).reads self.old) result self.new }
+    {
+        if self.sees_the_number(number) {
+            self.skip();
+            Ok(())
+        } else {
+            Err(self.refuse())
+        }
+    }
+
+    pub fn sees_the_number(&self, number: u128) -> bool
+        ensures { result ≡ starts (t.is_the_number number) self.now }
+    {
+        match self.items {
+            [first, ..] => first.is_the_number(number),
+            [] => false,
         }
     }
 
