@@ -6,77 +6,39 @@
 //! `Other`, which no row has.
 
 ghost use Rattle.std.specs.Prelude.{◌≡◌, ◌<◌, ◌≤◌, ◌+◌, ◌-◌, ◌^◌, ◌++◌, length, IfOk};
-ghost use Rattle.std.specs.List.{prefix_len};
+ghost use Rattle.std.specs.List.{position_or_len};
 ghost use Rattle.fir_read.specs.Lex as spec;
 
 use std::alloc::Global;
-use tb_base::{Memory, Name, Place};
+use tb_base::{Memory, Place};
+use text_grammar::lex::{self, Piece};
 use text_grammar::{Item, Symbol, Token};
 
-/// What goes on with a word, with a number, and with a line.
-#[derive(Clone, Copy)]
-enum Class {
-    Word,
-    Digit,
-    Line,
-}
-
-fn is_in(class: Class, byte: u8) -> bool
-    ensures { result ≡ spec.is_in class byte }
+fn mark(symbol: Symbol, len: usize) -> Piece
+    ensures { result ≡ spec.mark symbol len }
 {
-    match class {
-        Class::Word => byte.is_ascii_alphanumeric() || byte == b'_' || byte == b'$',
-        Class::Digit => byte.is_ascii_digit(),
-        Class::Line => byte != b'\n',
+    Piece {
+        token: Some(Token::Symbol(symbol)),
+        len,
     }
 }
 
-/// How many bytes at the front are of the class.
-fn run(class: Class, bytes: &[u8]) -> usize
-    ensures value { result ≡ prefix_len (spec.is_in class) bytes.now }
-    ensures within { result ≤ length bytes.now }
-{
-    for (at, byte) in bytes.iter().enumerate() {
-        if !is_in(class, *byte) {
-            return at;
-        }
-    }
-    bytes.len()
-}
-
-/// The number that the digits spell.
-fn number(digits: &[u8]) -> Token
-    ensures { result ≡ spec.number_token (spec.value_of 0 digits.now) }
-{
-    let mut total: u128 = 0;
-    for byte in digits {
-        let Some(shifted) = total.checked_mul(10) else {
-            return Token::TooWide;
-        };
-        let Some(next) = shifted.checked_add(byte.saturating_sub(b'0') as u128) else {
-            return Token::TooWide;
-        };
-        total = next;
-    }
-    Token::Number(total)
-}
-
-fn less(next: u8) -> (Token, usize)
+fn less(next: u8) -> Piece
     ensures { result ≡ spec.less next }
 {
     match next {
-        b'=' => (Token::Symbol(Symbol::LessEqual), 2),
-        b'-' => (Token::Symbol(Symbol::LeftArrow), 2),
-        _ => (Token::Symbol(Symbol::Less), 1),
+        b'=' => mark(Symbol::LessEqual, 2),
+        b'-' => mark(Symbol::LeftArrow, 2),
+        _ => mark(Symbol::Less, 1),
     }
 }
 
-fn equal(next: u8) -> (Token, usize)
+fn equal(next: u8) -> Piece
     ensures { result ≡ spec.equal next }
 {
     match next {
-        b'>' => (Token::Symbol(Symbol::Arrow), 2),
-        _ => (Token::Symbol(Symbol::Equal), 1),
+        b'>' => mark(Symbol::Arrow, 2),
+        _ => mark(Symbol::Equal, 1),
     }
 }
 
@@ -100,37 +62,54 @@ fn single(byte: u8) -> Token
     }
 }
 
-/// The longest symbol that begins with `byte`, before `next`, which is 0 at the end.
-#[tactic(auto, unfolding(crate::specs::Lex::sign))]
-fn sign(byte: u8, next: u8) -> (Token, usize)
-    ensures value { result ≡ spec.sign byte next }
-    ensures short { spec.IsShort next result.1 }
+/// The longest symbol that begins with `byte`, before `next`, which is 0 where none follows.
+#[tactic(auto, unfolding(crate::specs::Lex::symbol))]
+fn symbol(byte: u8, next: u8) -> Piece
+    ensures value { result ≡ spec.symbol byte next }
+    ensures short { spec.IsShort next result.len }
 {
     match byte {
         b'<' => less(next),
         b'=' => equal(next),
-        _ => (single(byte), 1),
+        _ => Piece {
+            token: Some(single(byte)),
+            len: 1,
+        },
     }
 }
 
-/// The token at the front, and how many bytes it has.
-fn cut(alloc: Global, bytes: &[u8]) -> Result<(Token, usize), Memory>
+/// What the bytes begin with.
+#[tactic(auto, unfolding(crate::specs::Lex::piece))]
+fn piece(alloc: Global, bytes: &[u8]) -> Result<Piece, Memory>
     requires { 0 < length bytes.now }
-    ensures value { IfOk result (λ t. t ≡ spec.cut bytes.now) }
-    ensures within { IfOk result (λ t. (1 ≤ t.1) × (t.1 ≤ length bytes.now)) }
+    ensures value { IfOk result (λ p. p ≡ spec.piece bytes.now) }
+    ensures within { IfOk result (λ p. (1 ≤ p.len) × (p.len ≤ length bytes.now)) }
 {
     let byte = bytes[0];
-    if byte.is_ascii_alphabetic() || byte == b'_' {
-        let size = run(Class::Word, bytes);
-        let word = Vec::from_slice(alloc, &bytes[..size]).map_err(|_| Memory)?;
-        return Ok((Token::Word(Name::of(word)), size));
+    if byte == b' ' {
+        return Ok(Piece {
+            token: None,
+            len: 1,
+        });
+    }
+    if lex::begins_word(byte) {
+        return lex::word(alloc, bytes);
     }
     if byte.is_ascii_digit() {
-        let size = run(Class::Digit, bytes);
-        return Ok((number(&bytes[..size]), size));
+        return Ok(lex::decimal(bytes));
     }
     let next = if bytes.len() > 1 { bytes[1] } else { 0 };
-    Ok(sign(byte, next))
+    Ok(symbol(byte, next))
+}
+
+/// Adds the item of a token.
+fn add(items: &mut Vec<Item>, place: Place, token: Option<Token>) -> Result<(), Memory>
+    ensures { IfOk result (λ _. items.new.items ≡ items.old.items ++ spec.placed place.line place.column token) }
+{
+    if let Some(token) = token {
+        items.push(Item { place, token })?;
+    }
+    Ok(())
 }
 
 /// Adds the items of a line's tokens.
@@ -145,17 +124,11 @@ fn add_tokens(
 {
     let mut rest = bytes;
     let mut column: u32 = 1;
-    while let [first, more @ ..] = rest {
-        if *first == b' ' {
-            rest = more;
-            column += 1;
-            continue;
-        }
-        let (token, size) = cut(alloc, rest)?;
-        let place = Place { line, column };
-        items.push(Item { place, token }).map_err(|_| Memory)?;
-        rest = &rest[size..];
-        column += size as u32;
+    while !rest.is_empty() {
+        let Piece { token, len } = piece(alloc, rest)?;
+        add(items, Place { line, column }, token)?;
+        rest = &rest[len..];
+        column += len as u32;
     }
     Ok(())
 }
@@ -182,17 +155,25 @@ fn add_line(alloc: Global, items: &mut Vec<Item>, line: u32, bytes: &[u8]) -> Re
         return Ok(());
     }
     add_tokens(alloc, items, line, bytes)?;
-    let place = Place {
-        line,
-        column: size as u32 + 1,
-    };
-    let token = Token::Symbol(Symbol::LineEnd);
-    items.push(Item { place, token }).map_err(|_| Memory)?;
-    Ok(())
+    let column = size as u32 + 1;
+    add(items, Place { line, column }, Some(Token::Symbol(Symbol::LineEnd)))
 }
 
-/// The items of a text. It takes time linear in the text's length: a byte is looked at once to find its line's end, once
-/// from the line's end where it is a space there, and once for its token; each name is copied once.
+/// How many bytes stand before the first line feed.
+fn line_len(bytes: &[u8]) -> usize
+    ensures value { result ≡ position_or_len spec.is_feed bytes.now }
+    ensures within { result ≤ length bytes.now }
+{
+    for (at, byte) in bytes.iter().enumerate() {
+        if *byte == b'\n' {
+            return at;
+        }
+    }
+    bytes.len()
+}
+
+/// The items of a text. The time is linear in the text's length: a byte is looked at when its line's end is sought, again
+/// if it is a space at that end, and when its piece is cut; each name is copied once.
 #[tactic(auto, unfolding(crate::specs::Lex::items_of))]
 pub fn items(alloc: Global, text: &[u8]) -> Result<Vec<Item>, Memory>
     requires { length text.now < 2 ^ 32 - 1 }
@@ -201,12 +182,12 @@ pub fn items(alloc: Global, text: &[u8]) -> Result<Vec<Item>, Memory>
     let mut found = Vec::new(alloc);
     let mut line: u32 = 1;
     let mut rest = text;
-    let mut end = run(Class::Line, rest);
+    let mut end = line_len(rest);
     while end < rest.len() {
         add_line(alloc, &mut found, line, &rest[..end])?;
         rest = &rest[end + 1..];
         line += 1;
-        end = run(Class::Line, rest);
+        end = line_len(rest);
     }
     add_line(alloc, &mut found, line, rest)?;
     Ok(found)
