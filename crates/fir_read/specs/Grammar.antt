@@ -3,8 +3,9 @@ use Rattle.std.specs.Prelude.{ℕ, Bool, true, false, ◌&&◌, ◌||◌, if◌t
 use Rattle.std.specs.Str.{bytes_eq}
 use Rattle.text_grammar.specs.declared.item.Item.{Item}
 use Rattle.text_grammar.specs.declared.item.Symbol.TheVariants as s
-use Rattle.text_grammar.specs.Part.{Part, one, both, after, either, pick, nothing, many, whole}
-use Rattle.text_grammar.specs.Terminals.{at, is_word, is_symbol, keyword, mark, name, number}
+use Rattle.text_grammar.specs.Part.{Part, first, second, one, both, after, either, pick, nothing, many}
+use Rattle.text_grammar.specs.Terminals.{at, line_if, is_word, is_symbol, keyword, mark, name, number}
+use Rattle.fir_read.specs.declared.rows.Head.{Head}
 use Rattle.fir_read.specs.declared.tree.Circuit.{Circuit}
 use Rattle.fir_read.specs.declared.tree.Module.{Module}
 use Rattle.fir_read.specs.declared.tree.Port.{Port}
@@ -13,37 +14,25 @@ use Rattle.fir_read.specs.declared.tree.Stmt.TheVariants as stmt
 use Rattle.fir_read.specs.declared.tree.Expr.{Expr}
 use Rattle.fir_read.specs.declared.tree.Expr.TheVariants as expr
 
--- ---- which of two values is kept
-
-abbrev pub first : {A B : Type 0} → A → B → A
-first a b = a
-
-abbrev pub second : {A B : Type 0} → A → B → B
-second a b = b
-
 abbrev pub pair : {A B : Type 0} → A → B → A × B
 pair a b = (a, b)
 
 -- ---- lines
 
-abbrev pub Head : Type 0
-Head = ℕ × List ℕ
-
 -- a row that begins with this word, at this column
 abbrev pub begins_row : ℕ → List ℕ → Item → Bool
 begins_row column text x = at column x && is_word text x
 
-abbrev pub number_of_line : Bool → ℕ → Option ℕ
-number_of_line true line = Some line
-number_of_line false line = None
-
 -- the first word of a line; its value is the line's number
 unfoldable pub first_word : ℕ → List ℕ → Part ℕ
-first_word column text = one (λ x. number_of_line (begins_row column text x) x.place.line)
+first_word column text = one (λ x. line_if (begins_row column text x) x.place.line)
+
+abbrev pub make_head : ℕ → List ℕ → Head
+make_head line w = record { line = line; name = w }
 
 -- `text w :`
 unfoldable pub head : ℕ → List ℕ → Part Head
-head column text = both pair (first_word column text) (both first name (both second (mark s.Colon) (mark s.LineEnd)))
+head column text = both make_head (first_word column text) (both first name (both second (mark s.Colon) (mark s.LineEnd)))
 
 -- ---- ports
 
@@ -98,14 +87,14 @@ is_connect x = begins_row 5 (codes "connect") x
 -- ---- the whole text
 
 abbrev pub make_module : Head → List Port × List Stmt → Module
-make_module h b = record { line = h.0; name = h.1; ports = b.0; body = b.1 }
+make_module h b = record { line = h.line; name = h.name; ports = b.0; body = b.1 }
 
 -- `module w :` at column 3, then the ports, then the statements
 unfoldable pub block : Part Module
 block = both make_module (head 3 (codes "module")) (both pair (many is_port port) (many is_connect connect))
 
 abbrev pub make_circuit : Head → Module → Circuit
-make_circuit h m = record { line = h.0; name = h.1; «module» = m }
+make_circuit h m = record { line = h.line; name = h.name; «module» = m }
 
 -- `circuit w :` at column 1, then its one module
 unfoldable pub circuit : Part Circuit

@@ -113,12 +113,7 @@ fn add(items: &mut Vec<Item>, place: Place, token: Option<Token>) -> Result<(), 
 }
 
 /// Adds the items of a line's tokens.
-fn add_tokens(
-    alloc: Global,
-    items: &mut Vec<Item>,
-    line: u32,
-    bytes: &[u8],
-) -> Result<(), Memory>
+fn add_tokens(alloc: Global, items: &mut Vec<Item>, line: u32, bytes: &[u8]) -> Result<(), Memory>
     requires { length bytes.now < 2 ^ 32 - 1 }
     ensures { IfOk result (λ _. items.new.items ≡ items.old.items ++ spec.tokens line 1 0 bytes.now) }
 {
@@ -156,7 +151,11 @@ fn add_line(alloc: Global, items: &mut Vec<Item>, line: u32, bytes: &[u8]) -> Re
     }
     add_tokens(alloc, items, line, bytes)?;
     let column = size as u32 + 1;
-    add(items, Place { line, column }, Some(Token::Symbol(Symbol::LineEnd)))
+    add(
+        items,
+        Place { line, column },
+        Some(Token::Symbol(Symbol::LineEnd)),
+    )
 }
 
 /// How many bytes stand before the first line feed.

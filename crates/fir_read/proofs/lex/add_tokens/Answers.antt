@@ -1,4 +1,4 @@
-use Rattle.std.proofs.Common.{rules, arith}
+use Rattle.std.proofs.Common.{rules}
 use Rattle.std.proofs.lemmas.List.{take_rest}
 use Rattle.fir_read.proofs.Lexing.{piece_goes}
 use Rattle.fir_read.proofs.lex.add_tokens.Goals as goal
