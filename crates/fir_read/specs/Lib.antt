@@ -1,0 +1,4 @@
+pub mod Lex
+pub mod Grammar
+pub mod Circuits
+pub mod Examples
