@@ -40,10 +40,11 @@ is_output ports name = option_map_or (λ p. p.output) (port_of ports name) false
 abbrev pub written_width : List Port → List ℕ → ℕ
 written_width ports name = option_map_or (λ p. p.width) (port_of ports name) 0
 
--- the width of an expression: a sum has one bit more than the wider of its two words
-abbrev pub expression_width : List Port → Expr → ℕ
-expression_width ports (Ident a) = written_width ports a
-expression_width ports (Add a b) = max (written_width ports a) (written_width ports b) + 1
+-- whether an expression has at most 128 bits: a word has if its port has, and a sum has one bit more than the wider
+-- of its two words
+abbrev pub is_narrow : List Port → Expr → Bool
+is_narrow ports (Ident a) = true
+is_narrow ports (Add a b) = nat_le (max (written_width ports a) (written_width ports b) + 1) 128
 
 -- no two of the names are equal
 abbrev pub are_distinct : List (List ℕ) → Bool
@@ -78,9 +79,9 @@ drives_outputs m = list_all (λ s. is_output m.ports (sink_of s)) m.body
 abbrev pub drives_each_once : Module → Bool
 drives_each_once m = list_all (λ p. not p.output || (count_by (λ s. bytes_eq (sink_of s) p.name) m.body == 1)) m.ports
 
--- the width of each expression, sums included, is at most 128
+-- the width of each sum is at most 128
 abbrev pub has_narrow_sums : Module → Bool
-has_narrow_sums m = list_all (λ s. nat_le (expression_width m.ports (source_of s)) 128) m.body
+has_narrow_sums m = list_all (λ s. is_narrow m.ports (source_of s)) m.body
 
 -- the circuit keeps all the rules of the first form
 unfoldable pub first_form : Circuit → Bool

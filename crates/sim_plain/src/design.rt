@@ -3,6 +3,7 @@
 //! It keeps the circuit's name, the table of its ports, and the net, whose signals are the ports by their places.
 ghost use Rattle.std.specs.Prelude.{◌≡◌, ℕ, ◌≤◌, ◌<◌, List, length, Some, slice_get, map};
 ghost use Rattle.sim_plain.specs.Settled.{DesignValue, net_in};
+ghost use Rattle.sim_plain.specs.Sound.{IsSound};
 ghost use Rattle.sim_plain.specs.Seen.{net_seen};
 
 use crate::draft::Draft;
@@ -35,6 +36,7 @@ impl Model for Design {
 
 impl Design {
     pub(crate) fn of(name: Name, draft: Draft, equations: Vec<Equation>) -> Design
+        requires { IsSound draft.ports draft.widths.items equations.items }
         ensures { result ≡ record { name = name; ports = draft.ports; equations = equations.items } }
     {
         let Draft { ports, widths, .. } = draft;

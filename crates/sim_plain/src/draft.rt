@@ -2,7 +2,7 @@
 //!
 //! The three lists have an item for each port so far. An input has its equation at once; an output gets it from its
 //! connect, so an output with no equation has had no connect yet, and a port with one takes no other.
-ghost use Rattle.std.specs.Prelude.{◌≡◌, ◌<◌, ◌++◌, ◌∷◌, [], None, Some, length, OnOk, OnErr, OnSome, IfNone, IsErrOf, IsTrue, if◌then◌else◌, slice_set, slice_index_or, is_none};
+ghost use Rattle.std.specs.Prelude.{◌≡◌, ◌<◌, ◌++◌, ◌∷◌, [], None, Some, length, OnOk, OnSome, IfNone, IsErrOf, IsTrue, if◌then◌else◌, slice_set, slice_index_or, is_none, false};
 ghost use Rattle.sim_plain.specs.Steps.{empty_draft, has_room_for, with_port, input_named, checked_equation, with_connect};
 ghost use Rattle.sim_plain.specs.DesignOf.{port_info};
 ghost use Rattle.sim_plain.specs.Seen.{draft_seen};
@@ -25,13 +25,12 @@ pub(crate) struct Draft {
 }
 
 /// Adds an item, or refuses for want of memory.
-pub(crate) fn push<T: Copy>(items: &mut Vec<T>, item: T) -> Result<(), FormFault>
-    ensures ok { OnOk result (items.new.items ≡ items.old.items ++ item ∷ []) }
-    ensures memory { OnErr result (IsErrOf result (FormFault.Memory Memory)) }
+pub(crate) fn push<T: Copy>(items: &mut Vec<T>, item: T) -> Result<(), Memory>
+    ensures { OnOk result (items.new.items ≡ items.old.items ++ item ∷ []) }
 {
     match items.push(item) {
         Ok(()) => Ok(()),
-        Err(_) => Err(FormFault::Memory(Memory)),
+        Err(_) => Err(Memory),
     }
 }
 
@@ -109,8 +108,8 @@ impl Draft {
         let equation = if port.output { None } else { Some(Equation::Input) };
         let name = port.name.copy(alloc).map_err(FormFault::Memory)?;
         self.ports.add(name.into_vec(), info).map_err(FormFault::Memory)?;
-        push(&mut self.widths, width)?;
-        push(&mut self.equations, equation)?;
+        push(&mut self.widths, width).map_err(FormFault::Memory)?;
+        push(&mut self.equations, equation).map_err(FormFault::Memory)?;
         Ok(())
     }
 

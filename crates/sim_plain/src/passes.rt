@@ -38,7 +38,7 @@ fn all_equations(alloc: Global, entries: &[Option<Equation>]) -> Result<Vec<Equa
     let mut equations = Vec::new(alloc);
     for entry in entries {
         match entry {
-            Some(equation) => push(&mut equations, *equation)?,
+            Some(equation) => push(&mut equations, *equation).map_err(FormFault::Memory)?,
             None => return Err(FormFault::NotInForm),
         }
     }
