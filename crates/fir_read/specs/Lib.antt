@@ -1,3 +1,4 @@
+pub mod FirstForm
 pub mod Lex
 pub mod Grammar
 pub mod Circuits
