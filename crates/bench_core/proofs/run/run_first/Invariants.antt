@@ -1,3 +1,4 @@
+use Rattle.bench_core.specs.Bench.{world_of}
 use Rattle.bench_core.proofs.Running.{RunsOn}
 use Rattle.bench_core.proofs.run.run_first.Given as goal
 
