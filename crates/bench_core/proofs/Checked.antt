@@ -30,11 +30,11 @@ pub checks_next : (ports : List (List ℕ × PortInfo)) (body : List TestStmt) (
 checks_next ports body i acts new stmt a h is e so_far n =
     let at : drop i body ≡ stmt ∷ drop (i + 1) body = rw add-one (drop-cons body i stmt h ∙ ap (λ (s : TestStmt). s ∷ drop (suc i) body) (sym is)) in
     let one : acts_of ports (drop i body) ≡ option_map (λ (rest : List Act). a ∷ rest) (acts_of ports (drop (i + 1) body)) =
-        ap (acts_of ports) at ∙ ap (option_and_then (λ (act : Act). option_map (λ (rest : List Act). act ∷ rest) (acts_of ports (drop (i + 1) body)))) e in
+    ap (acts_of ports) at ∙ ap (option_and_then (λ (act : Act). option_map (λ (rest : List Act). act ∷ rest) (acts_of ports (drop (i + 1) body)))) e in
     let long : length new ≡ length acts + 1 = ap length n ∙ length-append acts (a ∷ []) in
     record {
       whole = so_far.whole ∙ ap (option_map (λ (rest : List Act). acts ++ rest)) one ∙ moved acts new a (acts_of ports (drop (i + 1) body)) n;
-      count = long ∙ ap (λ (k : ℕ). k + 1) so_far.count
+      count = long ∙ ap (λ (k : ℕ). k + 1) so_far.count;
     }
 
 -- at a statement without an act the test has none
@@ -43,7 +43,7 @@ pub checks_stop : (ports : List (List ℕ × PortInfo)) (body : List TestStmt) (
 checks_stop ports body i acts stmt h is e so_far =
     let at : drop i body ≡ stmt ∷ drop (suc i) body = drop-cons body i stmt h ∙ ap (λ (s : TestStmt). s ∷ drop (suc i) body) (sym is) in
     let none : acts_of ports (drop i body) ≡ None =
-        ap (acts_of ports) at ∙ ap (option_and_then (λ (act : Act). option_map (λ (rest : List Act). act ∷ rest) (acts_of ports (drop (suc i) body)))) e in
+    ap (acts_of ports) at ∙ ap (option_and_then (λ (act : Act). option_map (λ (rest : List Act). act ∷ rest) (acts_of ports (drop (suc i) body)))) e in
     so_far.whole ∙ ap (option_map (λ (rest : List Act). acts ++ rest)) none
 
 -- at the end the acts are those of the test

@@ -5,5 +5,9 @@ use Rattle.bench_core.specs.World.{World}
 -- the world of a bench
 abbrev pub world_of : Bench → World
 world_of b = record {
-  inputs = b.engine.inputs; time = b.time; records = b.records.items; failed = b.failed; actions = b.actions
+  inputs = b.engine.inputs;
+  time = b.time;
+  records = b.records.items;
+  failed = b.failed;
+  actions = b.actions;
 }

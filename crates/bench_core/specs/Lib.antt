@@ -1,3 +1,4 @@
 pub mod Acts
 pub mod Bench
+pub mod Examples
 pub mod World

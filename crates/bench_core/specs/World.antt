@@ -36,8 +36,14 @@ poked net inputs port raw = slice_set inputs port.0 (raw % 2 ^ slice_index net.w
 -- what is recorded of a port. The one thread is the root; its place is the number of its actions before
 abbrev pub observation : NetValue → World → ℕ → Signal → Option ℕ → Observation
 observation net w line port wanted = record {
-  time = w.time; region = Main; path = []; place = w.actions; line = line; port = port;
-  value = number_at net w port; wanted = wanted
+  time = w.time;
+  region = Main;
+  path = [];
+  place = w.actions;
+  line = line;
+  port = port;
+  value = number_at net w port;
+  wanted = wanted;
 }
 
 -- one more action
@@ -70,8 +76,9 @@ is_over_at w _ = false
 -- the run that is over with this time step: it has failed where the time step has a failure
 abbrev pub ended : World → Run
 ended w = record {
-  observations = w.records; actions = w.actions;
-  outcome = if w.failed then Failed w.time else Finished w.time
+  observations = w.records;
+  actions = w.actions;
+  outcome = if w.failed then Failed w.time else Finished w.time;
 }
 
 -- the rest of a run: the acts in order, up to the one with which it is over, and behind the last

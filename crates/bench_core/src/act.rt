@@ -6,6 +6,7 @@ ghost use Rattle.bench_core.specs.declared.act.TestFault.{TestFault};
 use net_core::{PortInfo, PortTable, Signal};
 use std::alloc::Global;
 use tb_base::{Memory, Seq};
+use thiserror::Error;
 use tl_read::{TestStmt, TestText};
 
 /// What a test does, statement by statement. Ports are named by their numbers in the circuit's
@@ -13,9 +14,16 @@ use tl_read::{TestStmt, TestText};
 #[derive(Clone, Copy, Debug, PartialEq, Eq)]
 pub enum Act {
     /// The input port gets the low bits of the number.
-    Poke { line: u32, port: Signal, raw: u128 },
+    Poke {
+        line: u32,
+        port: Signal,
+        raw: u128,
+    },
     /// The port's value is recorded.
-    Peek { line: u32, port: Signal },
+    Peek {
+        line: u32,
+        port: Signal,
+    },
     /// The port's value is compared with a number; a difference is recorded, and is a failure.
     Expect {
         line: u32,
@@ -23,16 +31,20 @@ pub enum Act {
         wanted: u128,
     },
     /// The test waits for the next edge of the clock.
-    Arrive { line: u32 },
+    Arrive {
+        line: u32,
+    },
 }
 
 /// Why a test was refused.
-#[derive(Clone, Copy, Debug, PartialEq, Eq)]
+#[derive(Clone, Copy, Debug, PartialEq, Eq, Error)]
 pub enum TestFault {
     /// A statement names a port that isn't there, pokes a port that is no input, or has a number
     /// that its port can't hold.
+    #[error("not in the first form")]
     NotInForm,
-    /// Want of memory.
+    /// There wasn't enough memory to tell.
+    #[error("out of memory")]
     Memory(Memory),
 }
 

@@ -85,7 +85,14 @@ impl Bench {
     }
 
     /// Counts an action that saw this number at a port, and records it.
-    fn record(&mut self, alloc: Global, line: u32, port: Signal, value: u128, wanted: Option<u128>) -> Result<(), Memory>
+    fn record(
+        &mut self,
+        alloc: Global,
+        line: u32,
+        port: Signal,
+        value: u128,
+        wanted: Option<u128>,
+    ) -> Result<(), Memory>
         requires room { self.old.actions < 2 ^ 32 - 1 }
         requires value { value ≡ number_at self.old.engine.net (world_of self.old) port }
         ensures net { OnOk result (self.new.engine.net ≡ self.old.engine.net) }
