@@ -20,7 +20,7 @@ fn a_file_that_was_made_is_read_back(rt: HostRuntime) -> Result<(), Fail> {
     let Ok(10) = desk.pull(Slot::Circuit, &mut buf) else {
         panic!(rt; "the bytes were not read");
     };
-    assert_eq!(rt; &buf[..10], b"some bytes");
+    assert_eq!(rt; &buf[..10], b"some bytes".as_slice());
     assert_eq!(rt; desk.pull(Slot::Circuit, &mut buf), Ok(0));
     fs::remove_file(&rt, path.as_str())?;
     assert!(rt; desk.open_slot(Slot::Test, path.as_str()).is_err());
