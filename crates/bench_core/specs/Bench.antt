@@ -1,0 +1,13 @@
+-- What a contract sees of a bench.
+use Rattle.bench_core.specs.declared.run.Bench.{Bench}
+use Rattle.bench_core.specs.World.{World}
+
+-- the world of a bench
+abbrev pub world_of : Bench → World
+world_of b = record {
+  inputs = b.engine.inputs;
+  time = b.time;
+  records = b.records.items;
+  failed = b.failed;
+  actions = b.actions;
+}

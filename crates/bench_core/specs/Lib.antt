@@ -1,0 +1,4 @@
+pub mod Acts
+pub mod Bench
+pub mod Examples
+pub mod World

@@ -1,0 +1,93 @@
+-- A run of a test with one thread, as a world that goes through the test's acts.
+use Rattle.std.specs.Prelude.{ℕ, ◌+◌, ◌%◌, ◌^◌, Bool, true, false, ◌==◌, if◌then◌else◌, List, [], ◌∷◌, ◌++◌, length, replicate, slice_set, slice_index, Option, Some, None}
+use Rattle.tb_base.specs.Word.{low_bits, value_of}
+use Rattle.tb_base.specs.declared.path.Region.{Region}
+use Rattle.tb_base.specs.declared.path.Region.TheVariants.{Main}
+use Rattle.net_core.specs.declared.ports.Signal.{Signal}
+use Rattle.sim_plain.specs.Settled.{NetValue, DesignValue, net_in, settled_in}
+use Rattle.bench_core.specs.declared.act.Act.{Act}
+use Rattle.bench_core.specs.declared.act.Act.TheVariants.{Poke, Peek, Expect, Arrive}
+use Rattle.bench_core.specs.declared.run.Observation.{Observation}
+use Rattle.bench_core.specs.declared.run.Outcome.{Outcome}
+use Rattle.bench_core.specs.declared.run.Outcome.TheVariants.{Failed, Finished}
+use Rattle.bench_core.specs.declared.run.Run.{Run}
+
+-- a run that goes on: the number of each input, the number of the time step, the records so far,
+-- whether this time step has a failure, and how many actions there were
+pub record World : Type 0 where
+  pub inputs : List ℕ
+  pub time : ℕ
+  pub records : List Observation
+  pub failed : Bool
+  pub actions : ℕ
+
+-- at the start all inputs are 0 and nothing has happened
+abbrev pub first_world : DesignValue → World
+first_world d = record { inputs = replicate (length d.ports) 0; time = 0; records = []; failed = false; actions = 0 }
+
+-- the number of a port: its settled value, extended to 128 bits
+abbrev pub number_at : NetValue → World → Signal → ℕ
+number_at net w port = low_bits 128 (value_of (settled_in net w.inputs port.0))
+
+-- the inputs after a poke: the port has the low bits of the number, as many as its width
+abbrev pub poked : NetValue → List ℕ → Signal → ℕ → List ℕ
+poked net inputs port raw = slice_set inputs port.0 (raw % 2 ^ slice_index net.widths port.0)
+
+-- what is recorded of a port. The one thread is the root; its place is the number of its actions before
+abbrev pub observation : NetValue → World → ℕ → Signal → Option ℕ → Observation
+observation net w line port wanted = record {
+  time = w.time;
+  region = Main;
+  path = [];
+  place = w.actions;
+  line = line;
+  port = port;
+  value = number_at net w port;
+  wanted = wanted;
+}
+
+-- one more action
+abbrev pub counted : World → World
+counted w = record w { actions = w.actions + 1 }
+
+-- one more action, which makes a record
+abbrev pub recorded : Observation → World → World
+recorded o w = record (counted w) { records = w.records ++ o ∷ [] }
+
+-- the next time step, which has no failure yet. The clock's edge changes no register, as there are none
+abbrev pub stepped : World → World
+stepped w = record w { time = w.time + 1; failed = false }
+
+-- the world after an act: a poke sets its input; a peek records the port's number; an expect
+-- records it where it isn't the wanted one, which is a failure; an arrival ends the time step
+abbrev pub acted : NetValue → World → Act → World
+acted net w (Poke line port raw) = record (counted w) { inputs = poked net w.inputs port raw }
+acted net w (Peek line port) = recorded (observation net w line port None) w
+acted net w (Expect line port wanted) =
+    if number_at net w port == wanted then counted w
+    else record (recorded (observation net w line port (Some wanted)) w) { failed = true }
+acted net w (Arrive line) = stepped (counted w)
+
+-- whether the run is over with this act: it is an arrival, and its time step has a failure
+abbrev pub is_over_at : World → Act → Bool
+is_over_at w (Arrive line) = w.failed
+is_over_at w _ = false
+
+-- the run that is over with this time step: it has failed where the time step has a failure
+abbrev pub ended : World → Run
+ended w = record {
+  observations = w.records;
+  actions = w.actions;
+  outcome = if w.failed then Failed w.time else Finished w.time;
+}
+
+-- the rest of a run: the acts in order, up to the one with which it is over, and behind the last
+-- act the end, which is an action too
+abbrev pub run_from : NetValue → World → List Act → Run
+run_from net w [] = ended (counted w)
+run_from net w (act ∷ acts) =
+    if is_over_at w act then ended (counted w) else run_from net (acted net w act) acts
+
+-- the run of a test's acts on a circuit
+unfoldable pub run_of : DesignValue → List Act → Run
+run_of d acts = run_from (net_in d) (first_world d) acts

@@ -1,0 +1,225 @@
+//! The run of a test with one thread.
+//!
+//! A bench keeps one engine and what has happened so far. Contracts see it as a world: the
+//! engine's inputs, the time step, the records, whether this time step has a failure, and the
+//! number of actions. Each step of the run is one step of that world.
+ghost use Rattle.std.specs.Prelude.{◌≡◌, ◌-◌, ◌^◌, ◌<◌, length, IfOk, OnOk, Some, None};
+ghost use Rattle.sim_plain.specs.Settled.{net_in};
+ghost use Rattle.bench_core.specs.World.{first_world, number_at, observation, recorded, counted, acted, stepped, is_over_at, ended, run_of};
+ghost use Rattle.bench_core.specs.Bench.{world_of};
+ghost use Rattle.bench_core.specs.declared.act.Act.{Act};
+
+use crate::act::Act;
+use net_core::Signal;
+use sim_plain::{Design, PlainEngine};
+use std::alloc::Global;
+use tb_base::{Memory, Path, Region, Seq};
+
+/// What a thread saw at a port: a peek, or an expect that failed.
+#[derive(Debug, Drop)]
+pub struct Observation {
+    /// The time step, counted from 0.
+    pub time: u32,
+    pub region: Region,
+    pub path: Path,
+    /// How many actions the thread had taken before.
+    pub place: u32,
+    /// The line of the statement.
+    pub line: u32,
+    pub port: Signal,
+    /// The port's value, extended to 128 bits.
+    pub value: u128,
+    /// The number that was wanted; it is there exactly for a failure.
+    pub wanted: Option<u128>,
+}
+
+/// How a run ended, and in which time step.
+#[derive(Clone, Copy, Debug, PartialEq, Eq)]
+pub enum Outcome {
+    /// The time step has a failure.
+    Failed { time: u32 },
+    /// The test is done, without a failure.
+    Finished { time: u32 },
+}
+
+/// A run that is over.
+#[derive(Debug, Drop)]
+pub struct Run {
+    /// What was observed, in order.
+    pub observations: Seq<Observation>,
+    /// The number of actions, the end included.
+    pub actions: u32,
+    pub outcome: Outcome,
+}
+
+/// A run that goes on.
+#[derive(Drop)]
+pub(crate) struct Bench {
+    engine: PlainEngine,
+    time: u32,
+    records: Vec<Observation>,
+    failed: bool,
+    actions: u32,
+}
+
+impl Bench {
+    /// The bench of a circuit before the first action.
+    fn new(alloc: Global, design: &Design) -> Result<Bench, Memory>
+        ensures net { IfOk result (λ b. b.engine.net ≡ net_in design.now) }
+        ensures world { IfOk result (λ b. world_of b ≡ first_world design.now) }
+    {
+        Ok(Bench {
+            engine: PlainEngine::new(alloc, design)?,
+            time: 0,
+            records: Vec::new(alloc),
+            failed: false,
+            actions: 0,
+        })
+    }
+
+    /// The port's number.
+    fn number(&self, port: Signal) -> u128
+        ensures { result ≡ number_at self.now.engine.net (world_of self.now) port }
+    {
+        self.engine.value(port).word()
+    }
+
+    /// Counts an action that saw this number at a port, and records it.
+    fn record(
+        &mut self,
+        alloc: Global,
+        line: u32,
+        port: Signal,
+        value: u128,
+        wanted: Option<u128>,
+    ) -> Result<(), Memory>
+        requires room { self.old.actions < 2 ^ 32 - 1 }
+        requires value { value ≡ number_at self.old.engine.net (world_of self.old) port }
+        ensures net { OnOk result (self.new.engine.net ≡ self.old.engine.net) }
+        ensures world { OnOk result (world_of self.new ≡ recorded (observation self.old.engine.net (world_of self.old) line port wanted) (world_of self.old)) }
+    {
+        let seen = Observation {
+            time: self.time,
+            region: Region::Main,
+            path: Path::root(alloc),
+            place: self.actions,
+            line,
+            port,
+            value,
+            wanted,
+        };
+        self.records.push(seen).map_err(|_| Memory)?;
+        self.actions += 1;
+        Ok(())
+    }
+
+    /// Takes the action of an expect.
+    fn expect(&mut self, alloc: Global, line: u32, port: Signal, wanted: u128) -> Result<(), Memory>
+        requires { self.old.actions < 2 ^ 32 - 1 }
+        ensures net { OnOk result (self.new.engine.net ≡ self.old.engine.net) }
+        ensures world { OnOk result (world_of self.new ≡ acted self.old.engine.net (world_of self.old) (Act.Expect line port wanted)) }
+    {
+        let value = self.number(port);
+        if value == wanted {
+            self.actions += 1;
+            return Ok(());
+        }
+        self.record(alloc, line, port, value, Some(wanted))?;
+        self.failed = true;
+        Ok(())
+    }
+
+    /// Ends the time step: the clock has its edge.
+    fn step(&mut self)
+        requires { self.old.time < 2 ^ 32 - 1 }
+        ensures net { self.new.engine.net ≡ self.old.engine.net }
+        ensures world { world_of self.new ≡ stepped (world_of self.old) }
+    {
+        self.engine.edge();
+        self.time += 1;
+        self.failed = false;
+    }
+
+    /// Takes the action of an act with which the run isn't over.
+    fn act(&mut self, alloc: Global, act: Act) -> Result<(), Memory>
+        requires actions { self.old.actions < 2 ^ 32 - 1 }
+        requires time { self.old.time < 2 ^ 32 - 1 }
+        ensures net { OnOk result (self.new.engine.net ≡ self.old.engine.net) }
+        ensures world { OnOk result (world_of self.new ≡ acted self.old.engine.net (world_of self.old) act) }
+    {
+        match act {
+            Act::Poke { port, raw, .. } => {
+                self.engine.poke(port, raw);
+                self.actions += 1;
+                Ok(())
+            }
+            Act::Peek { line, port } => {
+                let value = self.number(port);
+                self.record(alloc, line, port, value, None)?;
+                Ok(())
+            }
+            Act::Expect { line, port, wanted } => {
+                self.expect(alloc, line, port, wanted)?;
+                Ok(())
+            }
+            Act::Arrive { .. } => {
+                self.actions += 1;
+                self.step();
+                Ok(())
+            }
+        }
+    }
+
+    /// Whether the run is over with this act.
+    fn is_over_at(&self, act: Act) -> bool
+        ensures { result ≡ is_over_at (world_of self.now) act }
+    {
+        match act {
+            Act::Arrive { .. } => self.failed,
+            _ => false,
+        }
+    }
+
+    /// The run that is over with one more action.
+    fn end(self) -> Run
+        requires { self.actions < 2 ^ 32 - 1 }
+        ensures { result ≡ ended (counted (world_of self)) }
+    {
+        let Bench {
+            time,
+            records,
+            failed,
+            actions,
+            ..
+        } = self;
+        Run {
+            observations: Seq::of(records),
+            actions: actions + 1,
+            outcome: if failed {
+                Outcome::Failed { time }
+            } else {
+                Outcome::Finished { time }
+            },
+        }
+    }
+}
+
+/// The run of a test's acts on a circuit whose inputs are all 0 at the start.
+///
+/// Each act is an action, and so is the end of the test. A value that is read is the one after all
+/// earlier pokes. An expect that fails makes a record, and the test goes on; the run has failed
+/// when the time step with the failure ends. The one refusal is want of memory. The cost is linear
+/// in the number of acts.
+pub fn run_first(alloc: Global, design: &Design, acts: &[Act]) -> Result<Run, Memory>
+    requires { length acts.now < 2 ^ 32 - 1 }
+    ensures { IfOk result (λ r. r ≡ run_of design.now acts.now) }
+{
+    let mut bench = Bench::new(alloc, design)?;
+    for act in acts {
+        if bench.is_over_at(*act) {
+            return Ok(bench.end());
+        }
+        bench.act(alloc, *act)?;
+    }
+    Ok(bench.end())
+}
