@@ -1,0 +1,145 @@
+//! The items of a text: its tokens, with their places.
+
+ghost use Rattle.std.specs.Prelude.{◌≡◌};
+ghost use Rattle.text_grammar.specs.Part.{kind_of_token};
+ghost use Rattle.text_grammar.specs.Terminals as t;
+
+use crate::fault::{Form, Kind};
+use crate::tokens::same;
+use tb_base::{Name, Place};
+
+/// The symbols of both languages. Each language takes some of them.
+#[derive(Clone, Copy, Debug, PartialEq, Eq)]
+pub enum Symbol {
+    /// `<=`
+    LessEqual,
+    /// `=>`
+    Arrow,
+    /// `<-`
+    LeftArrow,
+    /// `<`
+    Less,
+    /// `>`
+    Greater,
+    /// `(`
+    OpenParen,
+    /// `)`
+    CloseParen,
+    /// `[`
+    OpenBracket,
+    /// `]`
+    CloseBracket,
+    /// `{`
+    OpenBrace,
+    /// `}`
+    CloseBrace,
+    /// `:`
+    Colon,
+    /// `,`
+    Comma,
+    /// `.`
+    Dot,
+    /// `=`
+    Equal,
+    /// `-`
+    Minus,
+    /// `%`
+    Percent,
+    /// The end of a logical line.
+    LineEnd,
+    /// `==`
+    EqualEqual,
+    /// `!=`
+    NotEqual,
+    /// `>=`
+    GreaterEqual,
+    /// `<<`
+    ShiftLeft,
+    /// `>>`
+    ShiftRight,
+    /// `+`
+    Plus,
+    /// `*`
+    Star,
+    /// `&`
+    And,
+    /// `|`
+    Or,
+    /// `^`
+    Xor,
+    /// `;`
+    Semicolon,
+}
+
+#[derive(Debug, Drop)]
+pub enum Token {
+    Word(Name),
+    Number(u128),
+    /// A number of 2^128 or more.
+    TooWide,
+    Symbol(Symbol),
+    /// A string, with the bytes between its quotes.
+    Text(Name),
+    /// An unsupported form begins here, wherever it stands.
+    Unsupported(Form),
+    /// A byte that begins no token.
+    Other,
+}
+
+#[derive(Debug, Drop)]
+pub struct Item {
+    pub place: Place,
+    pub token: Token,
+}
+
+impl Item {
+    pub fn is_word(&self, text: &[u8]) -> bool
+        ensures { result ≡ t.is_word text.now self.now }
+    {
+        match &self.token {
+            Token::Word(name) => name.bytes() == text,
+            _ => false,
+        }
+    }
+
+    pub fn is_symbol(&self, symbol: Symbol) -> bool
+        ensures { result ≡ t.is_symbol symbol self.now }
+    {
+        match &self.token {
+            Token::Symbol(found) => same(*found, symbol),
+            _ => false,
+        }
+    }
+
+    pub fn is_name(&self) -> bool
+        ensures { result ≡ t.is_name self.now }
+    {
+        matches!(&self.token, Token::Word(_))
+    }
+
+    pub fn is_number(&self) -> bool
+        ensures { result ≡ t.is_number self.now }
+    {
+        matches!(&self.token, Token::Number(_))
+    }
+
+    pub fn is_the_number(&self, number: u128) -> bool
+        ensures { result ≡ t.is_the_number number self.now }
+    {
+        match &self.token {
+            Token::Number(found) => *found == number,
+            _ => false,
+        }
+    }
+
+    /// Why it is refused, where it is.
+    pub fn refused(&self) -> Kind
+        ensures { result ≡ kind_of_token self.now.token }
+    {
+        match &self.token {
+            Token::TooWide => Kind::NumberTooWide,
+            Token::Unsupported(form) => Kind::Unsupported(*form),
+            _ => Kind::Syntax,
+        }
+    }
+}
