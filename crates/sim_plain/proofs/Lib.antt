@@ -1,0 +1,5 @@
+pub mod Tests
+pub mod PortsPass
+pub mod ConnectsPass
+pub mod OncePass
+pub mod BuiltIs
