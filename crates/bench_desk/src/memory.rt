@@ -73,8 +73,8 @@ impl MemoryDesk {
         ensures settings { IfOk result (λ d. settings d ≡ record { piece = piece; failing = failing; room = room }) }
         ensures calls { IfOk result (λ d. d.calls ≡ 0) }
     {
-        let report_bytes = Vec::with_capacity(alloc, room).map_err(|_| Memory)?;
-        let wave_bytes = Vec::with_capacity(alloc, room).map_err(|_| Memory)?;
+        let report_bytes = Vec::with_capacity(alloc, room)?;
+        let wave_bytes = Vec::with_capacity(alloc, room)?;
         let start = Reader {
             phase: Phase::Closed,
             file: 0,

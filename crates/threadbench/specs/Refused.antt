@@ -3,6 +3,7 @@ use Rattle.std.specs.Prelude.{ℕ, Bool, false, not, ◌&&◌, List, length, Som
 use Rattle.std.specs.declared.option.Option.{Option}
 use Rattle.bench_desk.specs.declared.desk.DeskFile.{DeskFile}
 use Rattle.bench_desk.specs.Meaning.{content}
+use Rattle.sim_plain.specs.Settled.{DesignValue}
 use Rattle.threadbench.specs.Answer.{RunLine, circuit_limit, test_limit}
 use Rattle.threadbench.specs.Forms.{design_for, acts_for}
 
@@ -11,11 +12,11 @@ abbrev pub is_circuit : List ℕ → Bool
 is_circuit text = not (nat_lt circuit_limit (length text)) && is_some (design_for text)
 
 -- the text is that of a test within its limit and in the first form for the design
-abbrev pub is_test : ℕ → List ℕ → Bool
+abbrev pub is_test : DesignValue → List ℕ → Bool
 is_test design text = not (nat_lt test_limit (length text)) && is_some (acts_for design text)
 
 -- the line's test is held, and is none for the design
-abbrev pub refuses_test_of : ℕ → RunLine → List DeskFile → Bool
+abbrev pub refuses_test_of : DesignValue → RunLine → List DeskFile → Bool
 refuses_test_of design line files = elim (content files line.test) [ None ↦ false | Some test ↦ not (is_test design test) ]
 
 -- the line's circuit is held, and is none

@@ -19,6 +19,7 @@ mod layers;
 mod reading;
 mod reply;
 mod top;
+mod toy;
 mod words;
 mod writing;
 
@@ -38,7 +39,7 @@ fn command_words<R: Env + Alloc<A = Global>>(rt: &R) -> Result<Vec<String>, Memo
     match env::args(rt) {
         Ok(args) => {
             for word in args.skip(1) {
-                words.push(word).map_err(|_| Memory)?;
+                words.push(word)?;
             }
             Ok(words)
         }
