@@ -5,7 +5,7 @@ use Rattle.std.proofs.lemmas.Bool.{or_parts}
 use Rattle.bench_model.specs.Paths.{Path, is_path, child, parent}
 use Rattle.bench_model.specs.Log.{Event, Kind, link, is_fork_of, is_end, names_joined}
 use Rattle.bench_model.specs.World.{Model, ModelLaws, Move, Thread, Threads, World, Mode, Enabled, IsRunning, Possible, act, act_of, answer, threads_after, wakes, newborn, woken, woken_mode, event_of, kind_of}
-use Rattle.bench_model.specs.World.Move.{poke, read, fork, join, arrive, joinstep, spend, end}
+use Rattle.bench_model.specs.World.Move.{poke, peek, expect, fork, join, arrive, joinstep, spend, end}
 use Rattle.bench_model.specs.World.Mode.{running, at_join, at_edges, at_joinstep, spent}
 use Rattle.bench_model.proofs.PathFacts.{is_path_refl, is_path_same, is_path_apart, same_path}
 use Rattle.bench_model.proofs.Origins.{Origin, itself, born, roused, kept, origin}
@@ -15,26 +15,14 @@ use Rattle.bench_model.proofs.WorldExchange.{rests}
 module _ (M : Model) (L : ModelLaws M) where
   -- a birth is a fork of its path, a waking an end
   birth_forks : (a q : Path) (t u : Thread M.Inner) (m : Move M.Inner) → newborn a t m ≡ Some (q, u) → is_fork_of (kind_of a t m) q ≡ true
-  birth_forks a q t u (poke l p v i) e = absurd (cc)
-  birth_forks a q t u (read l s g i) e = absurd (cc)
   birth_forks a q t u (fork l z c i) e =
       let f : child a (length t.forked) ≡ q = ap (λ (y : Option (Path × Thread M.Inner)). elim y [ None ↦ q | Some w ↦ w.0 ]) e in
       ap (λ z. is_path z q) f ∙ is_path_refl q
-  birth_forks a q t u (join l k i) e = absurd (cc)
-  birth_forks a q t u (arrive l n i) e = absurd (cc)
-  birth_forks a q t u (joinstep l k i) e = absurd (cc)
-  birth_forks a q t u (spend l) e = absurd (cc)
-  birth_forks a q t u end e = absurd (cc)
+  birth_forks a q t u _ e = absurd (cc)
 
   wakes_ends : (a : Path) (t : Thread M.Inner) (m : Move M.Inner) (z : Path × ℕ) → wakes a m ≡ Some z → is_end (kind_of a t m) ≡ true
-  wakes_ends a t (poke l p v i) z e = absurd (cc)
-  wakes_ends a t (read l s f i) z e = absurd (cc)
-  wakes_ends a t (fork l r c i) z e = absurd (cc)
-  wakes_ends a t (join l j i) z e = absurd (cc)
-  wakes_ends a t (arrive l n i) z e = absurd (cc)
-  wakes_ends a t (joinstep l j i) z e = absurd (cc)
-  wakes_ends a t (spend l) z e = absurd (cc)
   wakes_ends a t end z e = refl
+  wakes_ends a t _ z e = absurd (cc)
 
   -- the four links that are not there
   record Unlinked (a b : Path) (ta tb : Thread M.Inner) : Type 0 where

@@ -14,7 +14,7 @@ use Rattle.bench_model.specs.Paths.{Path, path_cmp, is_path}
 use Rattle.bench_model.specs.World.{Model, Thread, Threads, World, Mode, Enabled, IsRunning}
 use Rattle.bench_model.specs.World.Mode.{running, at_join, at_edges, at_joinstep, spent}
 use Rattle.bench_model.specs.Settle.{is_running, Setting, Finish, steps}
-use Rattle.bench_model.specs.Least.{is_enabled_by, first_enabled, least, least_of_run}
+use Rattle.bench_model.specs.Orders.{is_enabled, first_enabled, least, least_of_run}
 use Rattle.bench_model.proofs.PathFacts.{is_path_refl, is_path_same}
 use Rattle.bench_model.proofs.SettleFacts.{any_found}
 
@@ -68,7 +68,7 @@ module _ {X : Type 0} where
 
 module _ (I : Type 0) (w : World I) where
   -- the test for an enabled path
-  enabled_of : (p : Path) (o : Option (Thread I)) → map.get w.threads p ≡ o → is_enabled_by w o ≡ true → Enabled w p
+  enabled_of : (p : Path) (o : Option (Thread I)) → map.get w.threads p ≡ o → is_enabled w o ≡ true → Enabled w p
   enabled_of p None e h = absurd (cc)
   enabled_of p (Some t) e h =
       let b = both_of (is_running t.mode) (not (list_any (λ e. is_running e.1.mode && nat_lt e.1.region t.region) (map.entries w.threads))) h in
@@ -89,8 +89,8 @@ module _ (I : Type 0) (w : World I) where
               cc)
           go false k = refl
 
-  passes : (p : Path) → Enabled w p → is_enabled_by w (map.get w.threads p) ≡ true
-  passes p e = ap (is_enabled_by w) e.here ∙ ap₂ (λ x y. x && y) (ap is_running e.runs) (ap not (go (list_any (λ (v : Path × Thread I). is_running v.1.mode && nat_lt v.1.region e.thread.region) (map.entries w.threads)) refl))
+  passes : (p : Path) → Enabled w p → is_enabled w (map.get w.threads p) ≡ true
+  passes p e = ap (is_enabled w) e.here ∙ ap₂ (λ x y. x && y) (ap is_running e.runs) (ap not (go (list_any (λ (v : Path × Thread I). is_running v.1.mode && nat_lt v.1.region e.thread.region) (map.entries w.threads)) refl))
     where
       go : (c : Bool) → list_any (λ (v : Path × Thread I). is_running v.1.mode && nat_lt v.1.region e.thread.region) (map.entries w.threads) ≡ c → c ≡ false
       go true k = absurd (
@@ -103,21 +103,21 @@ module _ (I : Type 0) (w : World I) where
 
   least_enabled : (ps : List Path) (p : Path) → first_enabled w ps ≡ Some p → Enabled w p
   least_enabled [] p e = absurd (cc)
-  least_enabled (q ∷ ps) p e = go (is_enabled_by w (map.get w.threads q)) refl e (λ f. least_enabled ps p f)
+  least_enabled (q ∷ ps) p e = go (is_enabled w (map.get w.threads q)) refl e (λ f. least_enabled ps p f)
     where
-      go : (b : Bool) → is_enabled_by w (map.get w.threads q) ≡ b → cond b (Some q) (first_enabled w ps) ≡ Some p → (first_enabled w ps ≡ Some p → Enabled w p) → Enabled w p
+      go : (b : Bool) → is_enabled w (map.get w.threads q) ≡ b → cond b (Some q) (first_enabled w ps) ≡ Some p → (first_enabled w ps ≡ Some p → Enabled w p) → Enabled w p
       go true k f ih = let same : q ≡ p = cc in subst (Enabled w) same (enabled_of q (map.get w.threads q) refl k)
       go false k f ih = ih f
 
   least_all : (ps : List Path) → first_enabled w ps ≡ None → (p : Path) → list_any (eq_by_cmp path_cmp p) ps ≡ true → Enabled w p → ⊥
   unfolding is_path
   least_all [] e p h k = absurd (cc)
-  least_all (q ∷ ps) e p h k = go (is_enabled_by w (map.get w.threads q)) refl e (λ f g. least_all ps f p g k)
+  least_all (q ∷ ps) e p h k = go (is_enabled w (map.get w.threads q)) refl e (λ f g. least_all ps f p g k)
     where
-      go : (b : Bool) → is_enabled_by w (map.get w.threads q) ≡ b → cond b (Some q) (first_enabled w ps) ≡ None → (first_enabled w ps ≡ None → list_any (eq_by_cmp path_cmp p) ps ≡ true → ⊥) → ⊥
+      go : (b : Bool) → is_enabled w (map.get w.threads q) ≡ b → cond b (Some q) (first_enabled w ps) ≡ None → (first_enabled w ps ≡ None → list_any (eq_by_cmp path_cmp p) ps ≡ true → ⊥) → ⊥
       go true i f ih = absurd (cc)
       go false i f ih = ⊎_elim
-          (λ j. let t : is_enabled_by w (map.get w.threads q) ≡ true = subst (λ z. is_enabled_by w (map.get w.threads z) ≡ true) (is_path_same p q j) (passes p k) in absurd (cc))
+          (λ j. let t : is_enabled w (map.get w.threads q) ≡ true = subst (λ z. is_enabled w (map.get w.threads z) ≡ true) (is_path_same p q j) (passes p k) in absurd (cc))
           (λ j. ih f j) (or_cases (eq_by_cmp path_cmp p q) (list_any (eq_by_cmp path_cmp p) ps) h)
 
   least_there : (p : Path) → Enabled w p → list_any (eq_by_cmp path_cmp p) (map.keys w.threads) ≡ true

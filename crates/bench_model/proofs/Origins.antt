@@ -3,7 +3,7 @@ use Rattle.std.proofs.Common.{◌≡◌, ◌≢◌, ℕ, suc, ◌+◌, List, [],
 use Rattle.std.specs.FinMap as map
 use Rattle.bench_model.specs.Paths.{Path, path_cmp, is_path, child, parent}
 use Rattle.bench_model.specs.World.{Model, Move, Thread, Threads, World, Mode, wakes, newborn, self_after, is_there, threads_after, woken, woken_mode}
-use Rattle.bench_model.specs.World.Move.{poke, read, fork, join, arrive, joinstep, spend, end}
+use Rattle.bench_model.specs.World.Move.{poke, peek, expect, fork, join, arrive, joinstep, spend, end}
 use Rattle.bench_model.specs.World.Mode.{running, at_join, at_edges, at_joinstep, spent}
 use Rattle.bench_model.proofs.PathFacts.{is_path_refl, is_path_sym, is_path_same, is_path_apart, same_path}
 use Rattle.bench_model.proofs.ThreadsFacts.{born_at, woken_at, get_after}
@@ -53,7 +53,8 @@ module _ (I : Type 0) (ts : Threads I) (a : Path) (ta : Thread I) (m : Move I) (
 module _ (I : Type 0) where
   pub self_region : (t u : Thread I) (m : Move I) (x : ℕ) (b : Bool) → self_after t m x b ≡ Some u → u.region ≡ t.region
   self_region t u (poke l q v i) x b e = ap (λ (y : Option (Thread I)). elim y [ None ↦ t.region | Some z ↦ z.region ]) (sym e)
-  self_region t u (read l s f i) x b e = ap (λ (y : Option (Thread I)). elim y [ None ↦ t.region | Some z ↦ z.region ]) (sym e)
+  self_region t u (peek l s f i) x b e = ap (λ (y : Option (Thread I)). elim y [ None ↦ t.region | Some z ↦ z.region ]) (sym e)
+  self_region t u (expect l s f i) x b e = ap (λ (y : Option (Thread I)). elim y [ None ↦ t.region | Some z ↦ z.region ]) (sym e)
   self_region t u (fork l r c i) x b e = ap (λ (y : Option (Thread I)). elim y [ None ↦ t.region | Some z ↦ z.region ]) (sym e)
   self_region t u (join l k i) x b e = ap (λ (y : Option (Thread I)). elim y [ None ↦ t.region | Some z ↦ z.region ]) (sym e)
   self_region t u (arrive l n i) x b e = ap (λ (y : Option (Thread I)). elim y [ None ↦ t.region | Some z ↦ z.region ]) (sym e)

@@ -4,7 +4,7 @@ use Rattle.std.specs.FinMap as map
 use Rattle.std.proofs.lemmas.List.{get_or_append_left, get_or_push}
 use Rattle.bench_model.specs.Paths.{Path, path_cmp, is_path, child, parent}
 use Rattle.bench_model.specs.World.{Model, ModelLaws, Move, Thread, Threads, World, Mode, Enabled, IsRunning, Possible, FitsMove, act, act_of, answer, threads_after, wakes, newborn, self_after, is_there, woken, woken_mode, went}
-use Rattle.bench_model.specs.World.Move.{poke, read, fork, join, arrive, joinstep, spend, end}
+use Rattle.bench_model.specs.World.Move.{poke, peek, expect, fork, join, arrive, joinstep, spend, end}
 use Rattle.bench_model.specs.World.Mode.{running, at_join, at_edges, at_joinstep, spent}
 use Rattle.bench_model.proofs.PathFacts.{is_path_refl, is_path_same, is_path_apart, same_path, child_of_parent, below_itself, below_child, not_own_child, child_below, child_is, child_same, BelowChild, first, deeper, below_a_child}
 use Rattle.bench_model.proofs.Origins.{Origin, itself, born, roused, kept, origin, self_region}
@@ -30,7 +30,8 @@ module _ (M : Model) (L : ModelLaws M) where
 
   self_grows : (t u : Thread M.Inner) (m : Move M.Inner) (x : ℕ) (b : Bool) → self_after t m x b ≡ Some u → Grows t u
   self_grows t u (poke l q v i) x b e = grows_same t u (ap (field t.forked (λ y. y.forked)) (sym e))
-  self_grows t u (read l s f i) x b e = grows_same t u (ap (field t.forked (λ y. y.forked)) (sym e))
+  self_grows t u (peek l s f i) x b e = grows_same t u (ap (field t.forked (λ y. y.forked)) (sym e))
+  self_grows t u (expect l s f i) x b e = grows_same t u (ap (field t.forked (λ y. y.forked)) (sym e))
   self_grows t u (fork l r c i) x b e =
       let f : u.forked ≡ t.forked ++ r ∷ [] = ap (field t.forked (λ y. y.forked)) (sym e) in
       record { longer = omega (arith, ap length f, length-append t.forked (r ∷ [])); same = λ k h. ap (λ xs. slice_index xs k) f ∙ get_or_append_left t.forked (r ∷ []) 0 k h }
@@ -54,14 +55,8 @@ module _ (M : Model) (L : ModelLaws M) where
         (u.mode ≡ v.mode) ⊎ ((k : ℕ) × (a ≡ child q k) × (u.mode ≡ woken_mode k v.mode) × (m ≡ end)) → Past ts a ta m x q u
 
   rouses_end : (a : Path) (m : Move M.Inner) (z : Path × ℕ) → wakes a m ≡ Some z → m ≡ end
-  rouses_end a (poke l p v i) z e = absurd (cc)
-  rouses_end a (read l s f i) z e = absurd (cc)
-  rouses_end a (fork l r c i) z e = absurd (cc)
-  rouses_end a (join l j i) z e = absurd (cc)
-  rouses_end a (arrive l n i) z e = absurd (cc)
-  rouses_end a (joinstep l j i) z e = absurd (cc)
-  rouses_end a (spend l) z e = absurd (cc)
   rouses_end a end z e = refl
+  rouses_end a _ z e = absurd (cc)
 
   past_of : (ts : Threads M.Inner) (a : Path) (ta : Thread M.Inner) (m : Move M.Inner) (x : ℕ) (q : Path) (u : Thread M.Inner) → Origin ts a ta m x q u → Past ts a ta m x q u
   past_of ts a ta m x q u (itself e f) = own e f
@@ -83,8 +78,6 @@ module _ (M : Model) (L : ModelLaws M) where
     fits : FitsMove M ta.region ta.forked m → M.Fits u.region u.forked u.inner
 
   birth_of : (a q : Path) (ta u : Thread M.Inner) (m : Move M.Inner) → newborn a ta m ≡ Some (q, u) → Birth a q ta u m
-  birth_of a q ta u (poke l p v i) e = absurd (cc)
-  birth_of a q ta u (read l s f i) e = absurd (cc)
   birth_of a q ta u (fork l r c i) e =
       let z : Thread M.Inner = record { region = r; mode = running; inner = c; forked = []; acts = 0; joined = None } in
       let g : z ≡ u = ap (λ (y : Option (Path × Thread M.Inner)). elim y [ None ↦ z | Some w ↦ w.1 ]) e in
@@ -96,16 +89,13 @@ module _ (M : Model) (L : ModelLaws M) where
         grown = λ x b t h. ap (field ta.forked (λ y. y.forked)) (sym h) ∙ ap (λ (y : Thread M.Inner). ta.forked ++ y.region ∷ []) g;
         fits = λ f. subst (λ (y : Thread M.Inner). M.Fits y.region y.forked y.inner) g f.1;
       }
-  birth_of a q ta u (join l j i) e = absurd (cc)
-  birth_of a q ta u (arrive l n i) e = absurd (cc)
-  birth_of a q ta u (joinstep l j i) e = absurd (cc)
-  birth_of a q ta u (spend l) e = absurd (cc)
-  birth_of a q ta u end e = absurd (cc)
+  birth_of a q ta u _ e = absurd (cc)
 
   -- what the thread itself keeps
   self_fits : (t u : Thread M.Inner) (m : Move M.Inner) (x : ℕ) (b : Bool) → M.Fits t.region t.forked t.inner → FitsMove M t.region t.forked m → self_after t m x b ≡ Some u → M.Fits u.region u.forked u.inner
   self_fits t u (poke l q v i) x b o f e = subst (λ y. held (λ z. M.Fits z.region z.forked z.inner) y) e (f x)
-  self_fits t u (read l s g i) x b o f e = subst (λ y. held (λ z. M.Fits z.region z.forked z.inner) y) e (f x)
+  self_fits t u (peek l s g i) x b o f e = subst (λ y. held (λ z. M.Fits z.region z.forked z.inner) y) e (f x)
+  self_fits t u (expect l s g i) x b o f e = subst (λ y. held (λ z. M.Fits z.region z.forked z.inner) y) e f
   self_fits t u (fork l r c i) x b o f e = subst (λ y. held (λ z. M.Fits z.region z.forked z.inner) y) e f.2
   self_fits t u (join l k i) x b o f e = subst (λ y. held (λ z. M.Fits z.region z.forked z.inner) y) e f.1
   self_fits t u (arrive l n i) x b o f e = subst (λ y. held (λ z. M.Fits z.region z.forked z.inner) y) e f
@@ -115,7 +105,8 @@ module _ (M : Model) (L : ModelLaws M) where
 
   self_waits : (t u : Thread M.Inner) (m : Move M.Inner) (x : ℕ) (b : Bool) (k : ℕ) → FitsMove M t.region t.forked m → self_after t m x b ≡ Some u → u.mode ≡ at_join k → (slice_index u.forked k ≤ u.region) × (u.joined ≡ Some k)
   self_waits t u (poke l q v i) x b k f e h = absurd (let g : running ≡ at_join k = ap (field running (λ y. y.mode)) e ∙ h in cc)
-  self_waits t u (read l s g i) x b k f e h = absurd (let g : running ≡ at_join k = ap (field running (λ y. y.mode)) e ∙ h in cc)
+  self_waits t u (peek l s g i) x b k f e h = absurd (let g : running ≡ at_join k = ap (field running (λ y. y.mode)) e ∙ h in cc)
+  self_waits t u (expect l s g i) x b k f e h = absurd (let g : running ≡ at_join k = ap (field running (λ y. y.mode)) e ∙ h in cc)
   self_waits t u (fork l r c i) x b k f e h = absurd (let g : running ≡ at_join k = ap (field running (λ y. y.mode)) e ∙ h in cc)
   self_waits t u (join l j i) x false k f e h = absurd (let g : running ≡ at_join k = ap (field running (λ y. y.mode)) e ∙ h in cc)
   self_waits t u (join l j i) x true k f e h =
@@ -147,7 +138,8 @@ module _ (M : Model) (L : ModelLaws M) where
 
   self_joined : (t u : Thread M.Inner) (m : Move M.Inner) (x : ℕ) (b : Bool) (k : ℕ) → self_after t m x b ≡ Some u → u.mode ≡ running → u.joined ≡ Some k → Joins m k b
   self_joined t u (poke l q v i) x b k e r h = absurd (let g : None ≡ Some k = ap (field None (λ y. y.joined)) e ∙ h in cc)
-  self_joined t u (read l s g i) x b k e r h = absurd (let g : None ≡ Some k = ap (field None (λ y. y.joined)) e ∙ h in cc)
+  self_joined t u (peek l s g i) x b k e r h = absurd (let g : None ≡ Some k = ap (field None (λ y. y.joined)) e ∙ h in cc)
+  self_joined t u (expect l s g i) x b k e r h = absurd (let g : None ≡ Some k = ap (field None (λ y. y.joined)) e ∙ h in cc)
   self_joined t u (fork l q c i) x b k e r h = absurd (let g : None ≡ Some k = ap (field None (λ y. y.joined)) e ∙ h in cc)
   self_joined t u (join l j i) x true k e r h = absurd (let g : at_join j ≡ running = ap (field running (λ y. y.mode)) e ∙ r in cc)
   self_joined t u (join l j i) x false k e r h =

@@ -14,10 +14,10 @@ use Rattle.bench_model.specs.Paths.{Path, path_cmp, is_path, child, parent}
 use Rattle.bench_model.specs.Log.{Event, conflicts, NoConflict}
 use Rattle.bench_model.specs.World.{Model, ModelLaws, Move, Thread, Threads, World, Mode, Record, Enabled, IsRunning, CleanAct, WorldAlike, Possible, worlds, event_of, act, act_of}
 use Rattle.bench_model.specs.World.Mode.{running, at_join, at_edges, at_joinstep, spent}
-use Rattle.bench_model.specs.Settle.{map_values, Limits, Outcome, Finish, Setting, is_running, quiet, first_spent, limited, ended, or_spent, verdict, released, tick_mode, tick, next_step, finish, settle_on, settle_by, settle_from, FinishAlike, conflict_of, steps}
+use Rattle.bench_model.specs.Settle.{map_values, Limits, Ending, Finish, Setting, fails_now, is_running, quiet, first_spent, limited, ended, or_spent, verdict, released, tick_mode, tick, next_step, finish, settle_on, settle_by, settle_from, settle, FinishAlike, conflict_of, steps}
 use Rattle.bench_model.proofs.LogFacts.{log_refl}
 use Rattle.bench_model.proofs.PathFacts.{is_path_same}
-use Rattle.bench_model.proofs.ScanFacts.{no_conflict_of, conflicts_not}
+use Rattle.bench_model.proofs.ScanFacts.{no_conflict_named, conflicts_named}
 use Rattle.bench_model.proofs.WorldLaws.{world_laws}
 
 -- ---- maps with each value changed
@@ -65,24 +65,24 @@ data TickCase (I : Type 0) (old u : Thread I) : Type 0 where
 
 module _ (S : Setting) (L : ModelLaws S.model) where
   finish_refl : (e : Finish) → FinishAlike e e
-  finish_refl e = record { outcome = refl; time = refl; records = IsPermutation-refl e.records; samples = refl; actions = refl }
+  finish_refl e = record { ending = refl; time = refl; records = IsPermutation-refl e.records; samples = refl; actions = refl }
 
   finish_sym : (e f : Finish) → FinishAlike e f → FinishAlike f e
-  finish_sym e f a = record { outcome = sym a.outcome; time = sym a.time; records = IsPermutation-sym e.records f.records a.records; samples = sym a.samples; actions = sym a.actions }
+  finish_sym e f a = record { ending = sym a.ending; time = sym a.time; records = IsPermutation-sym e.records f.records a.records; samples = sym a.samples; actions = sym a.actions }
 
   finish_trans : (e f g : Finish) → FinishAlike e f → FinishAlike f g → FinishAlike e g
-  finish_trans e f g a b = record { outcome = a.outcome ∙ b.outcome; time = a.time ∙ b.time; records = IsPermutation-trans e.records f.records g.records a.records b.records; samples = a.samples ∙ b.samples; actions = a.actions ∙ b.actions }
+  finish_trans e f g a b = record { ending = a.ending ∙ b.ending; time = a.time ∙ b.time; records = IsPermutation-trans e.records f.records g.records a.records b.records; samples = a.samples ∙ b.samples; actions = a.actions ∙ b.actions }
 
   not_quiet : (w : World S.model.Inner) (p : Path) → Enabled w p → quiet w ≡ false
   not_quiet w p e = ap not (any_found path_cmp (λ (p : Path) (t : Thread S.model.Inner). t) (λ (t : Thread S.model.Inner). is_running t.mode) p (map.entries w.threads) e.thread
       (sym (map.get-entries w.threads p) ∙ e.here) (ap is_running e.runs))
 
   clean_of : (w : World S.model.Inner) (p : Path) → conflict_of S.model w p (map.get w.threads p) ≡ false → CleanAct S.model w p
-  clean_of w p c t h = no_conflict_of S.model.cone (event_of p t (S.model.next t.inner)) w.log (ap (conflict_of S.model w p) (sym h) ∙ c)
+  clean_of w p c t h = no_conflict_named S.model.cone (event_of p t (S.model.next t.inner)) w.log (ap (conflict_of S.model w p) (sym h) ∙ c)
 
   test_of : (w : World S.model.Inner) (p : Path) → CleanAct S.model w p → (o : Option (Thread S.model.Inner)) → map.get w.threads p ≡ o → conflict_of S.model w p o ≡ false
   test_of w p c None h = refl
-  test_of w p c (Some t) h = conflicts_not S.model.cone (event_of p t (S.model.next t.inner)) w.log (c t h)
+  test_of w p c (Some t) h = conflicts_named S.model.cone (event_of p t (S.model.next t.inner)) w.log (c t h)
 
   size_of : (w : World S.model.Inner) (p : Path) → Enabled w p → length (act S.model w p).log ≡ suc (length w.log)
   size_of w p e = ap (λ o. length (act_of S.model w p o).log) e.here
@@ -94,8 +94,8 @@ module _ (S : Setting) (L : ModelLaws S.model) where
   -- ---- alike worlds settle alike
   verdict_alike : (w v : World S.model.Inner) → WorldAlike w v → verdict S.limits w ≡ verdict S.limits v
   verdict_alike w v a =
-      ap₂ (λ b o. cond b (Some Outcome.failed) o)
-      (list_any-IsPermutation (λ (r : Record). r.failure && nat_eq r.time w.time) w.records v.records a.records ∙ ap (λ n. list_any (λ (r : Record). r.failure && nat_eq r.time n) v.records) a.time)
+      ap₂ (λ b o. cond b (Some Ending.failed) o)
+      (list_any-IsPermutation (fails_now w.time) w.records v.records a.records ∙ ap (λ n. list_any (fails_now n) v.records) a.time)
       (ap₂ (λ ts o. or_spent (first_spent (map.entries ts)) (ended (is_some (map.get ts [])) o)) a.threads
       (ap₂ (λ t r. limited S.limits t r w.actions w.time) (ap map.len a.threads) (sym (length_permutation w.records v.records a.records))
       ∙ ap₂ (λ m n. limited S.limits (map.len v.threads) (length v.records) m n) a.actions a.time))
@@ -118,15 +118,15 @@ module _ (S : Setting) (L : ModelLaws S.model) where
   settle_on_alike again h w v false a = a
 
   settle_by_alike : (again : World S.model.Inner → World S.model.Inner ⊎ Finish) → ((w v : World S.model.Inner) → WorldAlike w v → SettleAlike (steps S) (again w) (again v)) →
-      (w v : World S.model.Inner) (o : Option Outcome) → WorldAlike w v → SettleAlike (steps S) (settle_by S again w o) (settle_by S again v o)
-  settle_by_alike again h w v (Some o) a = record { outcome = refl; time = a.time; records = a.records; samples = ap₂ (λ x y. x ∷ y) (ap₂ S.sample a.inputs a.registers) a.samples; actions = a.actions }
+      (w v : World S.model.Inner) (o : Option Ending) → WorldAlike w v → SettleAlike (steps S) (settle_by S again w o) (settle_by S again v o)
+  settle_by_alike again h w v (Some o) a = record { ending = refl; time = a.time; records = a.records; samples = ap₂ (λ x y. x ∷ y) (ap₂ S.sample a.inputs a.registers) a.samples; actions = a.actions }
   settle_by_alike again h w v None a =
       let n : WorldAlike (next_step S w) (next_step S v) = next_alike w v a in
       subst (λ b. SettleAlike (steps S) (settle_on S again (next_step S w) (quiet (next_step S w))) (settle_on S again (next_step S v) b)) (ap (λ ts. not (list_any (λ e. is_running e.1.mode) (map.entries ts))) n.threads)
       (settle_on_alike again h (next_step S w) (next_step S v) (quiet (next_step S w)) n)
 
   pub settle_alike : (n : ℕ) (w v : World S.model.Inner) → WorldAlike w v → SettleAlike (steps S) (settle_from S n w) (settle_from S n v)
-  settle_alike zero w v a = record { outcome = refl; time = a.time; records = a.records; samples = ap₂ (λ x y. x ∷ y) (ap₂ S.sample a.inputs a.registers) a.samples; actions = a.actions }
+  settle_alike zero w v a = record { ending = refl; time = a.time; records = a.records; samples = ap₂ (λ x y. x ∷ y) (ap₂ S.sample a.inputs a.registers) a.samples; actions = a.actions }
   settle_alike (suc n) w v a =
       subst (λ o. SettleAlike (steps S) (settle_by S (λ u. settle_from S n u) w (verdict S.limits w)) (settle_by S (λ u. settle_from S n u) v o)) (verdict_alike w v a)
       (settle_by_alike (λ u. settle_from S n u) (λ x y b. settle_alike n x y b) w v (verdict S.limits w) a)
@@ -200,7 +200,7 @@ module _ (S : Setting) (L : ModelLaws S.model) where
   settle_on_possible again h w false P = P
 
   settle_by_possible : (again : World S.model.Inner → World S.model.Inner ⊎ Finish) → ((w : World S.model.Inner) → Possible S.model w → SettlePossible (steps S) (again w)) →
-      (w : World S.model.Inner) (o : Option Outcome) → Possible S.model w → SettlePossible (steps S) (settle_by S again w o)
+      (w : World S.model.Inner) (o : Option Ending) → Possible S.model w → SettlePossible (steps S) (settle_by S again w o)
   settle_by_possible again h w (Some o) P = tt
   settle_by_possible again h w None P = settle_on_possible again h (next_step S w) (quiet (next_step S w)) (possible_next w P)
 

@@ -3,7 +3,7 @@ use Rattle.std.proofs.Common.{◌≡◌, ◌≢◌, ℕ, suc, ◌+◌, List, [],
 use Rattle.std.specs.FinMap as map
 use Rattle.bench_model.specs.Paths.{Path, path_cmp, is_path, child, parent}
 use Rattle.bench_model.specs.World.{Model, ModelLaws, Move, Thread, Threads, World, Mode, Enabled, IsRunning, Possible, FitsMove, act, act_of, answer, threads_after, wakes, newborn, self_after, is_there, woken, woken_mode}
-use Rattle.bench_model.specs.World.Move.{poke, read, fork, join, arrive, joinstep, spend, end}
+use Rattle.bench_model.specs.World.Move.{poke, peek, expect, fork, join, arrive, joinstep, spend, end}
 use Rattle.bench_model.specs.World.Mode.{running, at_join, at_edges, at_joinstep, spent}
 use Rattle.bench_model.proofs.PathFacts.{is_path_refl, is_path_same, is_path_apart, same_path, child_of_parent}
 use Rattle.bench_model.proofs.Origins.{Origin, itself, born, roused, kept, origin, self_region}
@@ -12,14 +12,8 @@ use Rattle.bench_model.proofs.WorldExchange.{rests, not_born}
 module _ (M : Model) (L : ModelLaws M) where
   -- a child is born into no lesser region than its parent's
   pub born_region : (r : ℕ) (forked : List ℕ) (a q : Path) (t u : Thread M.Inner) (m : Move M.Inner) → FitsMove M r forked m → newborn a t m ≡ Some (q, u) → r ≤ u.region
-  born_region r forked a q t u (poke l p v i) f e = absurd (cc)
-  born_region r forked a q t u (read l s g i) f e = absurd (cc)
   born_region r forked a q t u (fork l z c i) (h, _, _) e = subst (λ n. r ≤ n) (ap (λ (y : Option (Path × Thread M.Inner)). elim y [ None ↦ z | Some w ↦ w.1.region ]) e) h
-  born_region r forked a q t u (join l k i) f e = absurd (cc)
-  born_region r forked a q t u (arrive l n i) f e = absurd (cc)
-  born_region r forked a q t u (joinstep l k i) f e = absurd (cc)
-  born_region r forked a q t u (spend l) f e = absurd (cc)
-  born_region r forked a q t u end f e = absurd (cc)
+  born_region r forked a q t u _ f e = absurd (cc)
 
   pub woken_region : (k : ℕ) (v : Thread M.Inner) → woken_mode k v.mode ≡ running → (v.mode ≡ running) ⊎ (v.mode ≡ at_join k)
   woken_region k v e = go v.mode refl e
@@ -36,14 +30,8 @@ module _ (M : Model) (L : ModelLaws M) where
       go (spent l) f h = absurd (cc)
 
   pub waker : (a q : Path) (k : ℕ) (m : Move M.Inner) → wakes a m ≡ Some (q, k) → a ≡ child q k
-  waker a q k (poke l p v i) e = absurd (cc)
-  waker a q k (read l s f i) e = absurd (cc)
-  waker a q k (fork l r c i) e = absurd (cc)
-  waker a q k (join l j i) e = absurd (cc)
-  waker a q k (arrive l n i) e = absurd (cc)
-  waker a q k (joinstep l j i) e = absurd (cc)
-  waker a q k (spend l) e = absurd (cc)
   waker a q k end e = child_of_parent a q k e
+  waker a q k _ e = absurd (cc)
 
   module _ (w : World M.Inner) (P : Possible M w) (a : Path) (ta : Thread M.Inner) (ha : map.get w.threads a ≡ Some ta) where
     -- no act makes a thread of a lesser region running

@@ -3,7 +3,7 @@ use Rattle.std.proofs.Common.{◌≡◌, ◌≢◌, ℕ, suc, ◌+◌, List, [],
 use Rattle.std.specs.FinMap as map
 use Rattle.bench_model.specs.Paths.{Path, path_cmp, is_path, child, parent}
 use Rattle.bench_model.specs.World.{Model, Move, Thread, Threads, World, Mode, write, wake, birth, woken, woken_mode, wakes, newborn, self_after, is_there, threads_after, went}
-use Rattle.bench_model.specs.World.Move.{poke, read, fork, join, arrive, joinstep, spend, end}
+use Rattle.bench_model.specs.World.Move.{poke, peek, expect, fork, join, arrive, joinstep, spend, end}
 use Rattle.bench_model.specs.World.Mode.{running, at_join, at_edges, at_joinstep, spent}
 use Rattle.bench_model.proofs.PathFacts.{path_order, path_exact, is_path_refl, is_path_sym, is_path_same, is_path_apart, same_path, parent_child, child_of_parent, child_same}
 use Rattle.std.proofs.lemmas.Bool.{eq-eqb, eqb-true, ne_eqb}
@@ -67,14 +67,9 @@ module _ (I : Type 0) where
   side_of_wake (Some (q, k)) = waking q k
 
   pub side_of : (p : Path) (t : Thread I) (m : Move I) → Side I (newborn p t m) (wakes p m)
-  side_of p t (poke l q v i) = plain
-  side_of p t (read l s f i) = plain
   side_of p t (fork l r c i) = birth_of (child p (length t.forked)) (record { region = r; mode = running; inner = c; forked = []; acts = 0; joined = None }) refl
-  side_of p t (join l k i) = plain
-  side_of p t (arrive l n i) = plain
-  side_of p t (joinstep l k i) = plain
-  side_of p t (spend l) = plain
   side_of p t end = side_of_wake (parent p)
+  side_of p t _ = plain
 
   woken_both : (q q' : Path) (k j : ℕ) (x y : Bool) (o : Option (Thread I)) →
       cond y (option_map (woken j) (cond x (option_map (woken k) o) o)) (cond x (option_map (woken k) o) o) ≡ cond x (option_map (woken k) (cond y (option_map (woken j) o) o)) (cond y (option_map (woken j) o) o)
@@ -122,14 +117,8 @@ module _ (I : Type 0) (ts : Threads I) (a b : Path) (tb : Thread I) (ne : a ≡ 
       go false = refl
 
   not_born : (k : ℕ) (m : Move I) → Away (newborn b tb m) (child a k)
-  not_born k (poke l q v i) = tt
-  not_born k (read l s f i) = tt
   not_born k (fork l r c i) = is_path_apart (child a k) (child b (length tb.forked)) (λ e. ne (child_same a b k (length tb.forked) e).0)
-  not_born k (join l j i) = tt
-  not_born k (arrive l n i) = tt
-  not_born k (joinstep l j i) = tt
-  not_born k (spend l) = tt
-  not_born k end = tt
+  not_born k _ = tt
 
   born_away : (n : Option (Path × Thread I)) (r : Path) (o : Option (Thread I)) → Away n r → born_at n r o ≡ o
   born_away None r o e = refl
@@ -204,7 +193,8 @@ module _ (I : Type 0) (ts : Threads I) (a b : Path) (tb : Thread I) (ne : a ≡ 
       born_at (newborn b tb mb) a (woken_at (wakes b mb) a (self_after ta (join l k i) xa (is_some (map.get ts (child a k))))) ≡ self_after ta (join l k i) xa (is_some (map.get (threads_after ts b tb mb xb) (child a k)))
   unfolding joined_with
   own_join ta (poke l' q v j) xa xb w l k i = ap (λ y. self_after ta (join l k i) xa y) (sym (join_plain (poke l' q v j) xb k refl))
-  own_join ta (read l' s f j) xa xb w l k i = ap (λ y. self_after ta (join l k i) xa y) (sym (join_plain (read l' s f j) xb k refl))
+  own_join ta (peek l' s f j) xa xb w l k i = ap (λ y. self_after ta (join l k i) xa y) (sym (join_plain (peek l' s f j) xb k refl))
+  own_join ta (expect l' s f j) xa xb w l k i = ap (λ y. self_after ta (join l k i) xa y) (sym (join_plain (expect l' s f j) xb k refl))
   own_join ta (fork l' r c j) xa xb w l k i =
       ap (λ y. cond y (Some (record { region = r; mode = running; inner = c; forked = []; acts = 0; joined = None })) (self_after ta (join l k i) xa (is_some (map.get ts (child a k))))) w
       ∙ ap (λ y. self_after ta (join l k i) xa y) (sym (join_plain (fork l' r c j) xb k refl))
@@ -217,7 +207,8 @@ module _ (I : Type 0) (ts : Threads I) (a b : Path) (tb : Thread I) (ne : a ≡ 
   pub own : (ta : Thread I) (ma mb : Move I) (xa xb : ℕ) → Away (newborn b tb mb) a →
       born_at (newborn b tb mb) a (woken_at (wakes b mb) a (self_after ta ma xa (is_there ts a ma))) ≡ self_after ta ma xa (is_there (threads_after ts b tb mb xb) a ma)
   own ta (poke l q v i) mb xa xb w = stays_self ta mb xa xb w (Some (went ta (i xa) running None ta.forked)) (λ k. refl)
-  own ta (read l s f i) mb xa xb w = stays_self ta mb xa xb w (Some (went ta (i xa) running None ta.forked)) (λ k. refl)
+  own ta (peek l s f i) mb xa xb w = stays_self ta mb xa xb w (Some (went ta (i xa) running None ta.forked)) (λ k. refl)
+  own ta (expect l s f i) mb xa xb w = stays_self ta mb xa xb w (Some (went ta i running None ta.forked)) (λ k. refl)
   own ta (fork l r c i) mb xa xb w = stays_self ta mb xa xb w (Some (went ta i running None (ta.forked ++ r ∷ []))) (λ k. refl)
   own ta (join l k i) mb xa xb w = own_join ta mb xa xb w l k i
   own ta (arrive l n i) mb xa xb w = stays_self ta mb xa xb w (Some (went ta i (at_edges n) None ta.forked)) (λ k. refl)
@@ -230,21 +221,9 @@ births_apart : {I : Type 0} (a b : Path) (ta tb : Thread I) (ne : a ≡ b → �
 births_apart {I} a b ta tb ne (fork l r c i) mb = not_born_of mb
   where
     not_born_of : (m : Move I) → Away (newborn b tb m) (child a (length ta.forked))
-    not_born_of (poke l' q v j) = tt
-    not_born_of (read l' s f j) = tt
     not_born_of (fork l' r' c' j) = is_path_apart (child a (length ta.forked)) (child b (length tb.forked)) (λ e. ne (child_same a b (length ta.forked) (length tb.forked) e).0)
-    not_born_of (join l' k j) = tt
-    not_born_of (arrive l' n j) = tt
-    not_born_of (joinstep l' k j) = tt
-    not_born_of (spend l') = tt
-    not_born_of end = tt
-births_apart a b ta tb ne (poke l q v i) mb = tt
-births_apart a b ta tb ne (read l s f i) mb = tt
-births_apart a b ta tb ne (join l k i) mb = tt
-births_apart a b ta tb ne (arrive l n i) mb = tt
-births_apart a b ta tb ne (joinstep l k i) mb = tt
-births_apart a b ta tb ne (spend l) mb = tt
-births_apart a b ta tb ne end mb = tt
+    not_born_of _ = tt
+births_apart a b ta tb ne _ mb = tt
 
 -- ---- THE EXCHANGE OF THREADS
 module _ (I : Type 0) (ts : Threads I) (a b : Path) (ta tb : Thread I) (ne : a ≡ b → ⊥) (ha : map.get ts a ≡ Some ta) (hb : map.get ts b ≡ Some tb)

@@ -56,7 +56,7 @@ module _ (M : Model) where
       let m : Move M.Inner = M.next t.inner in
       let x : answer M w.inputs w.registers m ≡ answer M v.inputs v.registers m = ap₂ (λ i r. answer M i r m) a.inputs a.registers in
       record {
-        inputs = ap (λ i. inputs_after i m) a.inputs;
+        inputs = ap (λ i. inputs_after M i m) a.inputs;
         registers = a.registers;
         threads = ap₂ (λ ts n. threads_after ts p t m n) a.threads x;
         log = log_push w.log v.log (event_of p t m) a.log;

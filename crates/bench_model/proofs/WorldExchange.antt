@@ -7,9 +7,9 @@ use Rattle.std.proofs.lemmas.List.Sorted.{IsPermutation-refl, IsPermutation-appe
 use Rattle.bench_model.specs.Paths.{Path, path_cmp, is_path, child, parent}
 use Rattle.bench_model.specs.Log.{Event, Kind, NoConflict, LogAlike, link, clash, hits, touches, is_fork_of, is_end, names_joined}
 use Rattle.bench_model.specs.World.{Model, ModelLaws, Move, Thread, Threads, World, Mode, Record, Enabled, IsRunning, CleanAct, WorldAlike, Possible, act, act_of, answer, threads_after, inputs_after, recorded, event_of, kind_of, newborn, wakes, woken, woken_mode, self_after, is_there}
-use Rattle.bench_model.specs.World.Move.{poke, read, fork, join, arrive, joinstep, spend, end}
+use Rattle.bench_model.specs.World.Move.{poke, peek, expect, fork, join, arrive, joinstep, spend, end}
 use Rattle.bench_model.specs.World.Mode.{running, at_join, at_edges, at_joinstep, spent}
-use Rattle.bench_model.specs.Log.Kind.{pokes, reads, forks, ends, others}
+use Rattle.bench_model.specs.Log.Kind.{pokes, peeks, expects, forks, ends}
 use Rattle.bench_model.proofs.PathFacts.{is_path_refl, is_path_sym, is_path_same, is_path_apart, same_path}
 use Rattle.bench_model.proofs.LogFacts.{log_swap, no_conflict_less, no_conflict_more, no_clash}
 use Rattle.bench_model.proofs.ThreadsFacts.{born_at, woken_at, get_after}
@@ -21,41 +21,19 @@ module _ (M : Model) (L : ModelLaws M) where
 
   -- two pokes that don't clash, in either order
   inputs_swap : (ins : List ℕ) (p q : Path) (t u : Thread M.Inner) (m n : Move M.Inner) → hits M.cone (kind_of p t m) (kind_of q u n) ≡ false →
-      inputs_after (inputs_after ins m) n ≡ inputs_after (inputs_after ins n) m
-  inputs_swap ins p q t u (poke l x v i) (poke k y z j) e = set_comm ins x y v z (λ h. apart_numbers x y e (sym h))
-  inputs_swap ins p q t u (poke l x v i) (read k s f j) e = refl
-  inputs_swap ins p q t u (poke l x v i) (fork k r c j) e = refl
-  inputs_swap ins p q t u (poke l x v i) (join k n j) e = refl
-  inputs_swap ins p q t u (poke l x v i) (arrive k n j) e = refl
-  inputs_swap ins p q t u (poke l x v i) (joinstep k n j) e = refl
-  inputs_swap ins p q t u (poke l x v i) (spend k) e = refl
-  inputs_swap ins p q t u (poke l x v i) end e = refl
-  inputs_swap ins p q t u (read l s f i) n e = refl
-  inputs_swap ins p q t u (fork l r c i) n e = refl
-  inputs_swap ins p q t u (join l k i) n e = refl
-  inputs_swap ins p q t u (arrive l k i) n e = refl
-  inputs_swap ins p q t u (joinstep l k i) n e = refl
-  inputs_swap ins p q t u (spend l) n e = refl
-  inputs_swap ins p q t u end n e = refl
+      inputs_after M (inputs_after M ins m) n ≡ inputs_after M (inputs_after M ins n) m
+  inputs_swap ins p q t u (poke l x v i) (poke k y z j) e = set_comm ins x y (M.fitted x v) (M.fitted y z) (λ h. apart_numbers x y e (sym h))
+  inputs_swap ins p q t u (poke l x v i) _ e = refl
+  inputs_swap ins p q t u _ n e = refl
 
   -- what a thread learns from the circuit is the same after an act that doesn't clash with its own
   answer_same : (ins regs : List ℕ) (p q : Path) (t u : Thread M.Inner) (m n : Move M.Inner) → hits M.cone (kind_of p t m) (kind_of q u n) ≡ false →
-      answer M (inputs_after ins m) regs n ≡ answer M ins regs n
-  answer_same ins regs p q t u (poke l x v i) (poke k y z j) e = get_or-set_other ins x y v 0 (apart_numbers x y e)
-  answer_same ins regs p q t u (poke l x v i) (read k s f j) e = L.value_apart ins regs s x v e
-  answer_same ins regs p q t u (poke l x v i) (fork k r c j) e = refl
-  answer_same ins regs p q t u (poke l x v i) (join k n j) e = refl
-  answer_same ins regs p q t u (poke l x v i) (arrive k n j) e = refl
-  answer_same ins regs p q t u (poke l x v i) (joinstep k n j) e = refl
-  answer_same ins regs p q t u (poke l x v i) (spend k) e = refl
-  answer_same ins regs p q t u (poke l x v i) end e = refl
-  answer_same ins regs p q t u (read l s f i) n e = refl
-  answer_same ins regs p q t u (fork l r c i) n e = refl
-  answer_same ins regs p q t u (join l k i) n e = refl
-  answer_same ins regs p q t u (arrive l k i) n e = refl
-  answer_same ins regs p q t u (joinstep l k i) n e = refl
-  answer_same ins regs p q t u (spend l) n e = refl
-  answer_same ins regs p q t u end n e = refl
+      answer M (inputs_after M ins m) regs n ≡ answer M ins regs n
+  answer_same ins regs p q t u (poke l x v i) (poke k y z j) e = get_or-set_other ins x y (M.fitted x v) 0 (apart_numbers x y e)
+  answer_same ins regs p q t u (poke l x v i) (peek k s f j) e = L.value_apart ins regs s x (M.fitted x v) e
+  answer_same ins regs p q t u (poke l x v i) (expect k s f j) e = L.value_apart ins regs s x (M.fitted x v) e
+  answer_same ins regs p q t u (poke l x v i) _ e = refl
+  answer_same ins regs p q t u _ n e = refl
 
   -- two records, in either order
   records_swap : (xs ys rs : List Record) → IsPermutation (ys ++ (xs ++ rs)) (xs ++ (ys ++ rs))
@@ -65,16 +43,10 @@ module _ (M : Model) (L : ModelLaws M) where
   -- no birth is where a thread is
   pub not_born : (w : World M.Inner) → Possible M w → (a b : Path) (ta tb : Thread M.Inner) → map.get w.threads a ≡ Some ta → map.get w.threads b ≡ Some tb → (m : Move M.Inner) → Away (newborn a ta m) b
   unfolding child
-  not_born w P a b ta tb ha hb (poke l q v i) = tt
-  not_born w P a b ta tb ha hb (read l s f i) = tt
   not_born w P a b ta tb ha hb (fork l r c i) =
       is_path_apart b (child a (length ta.forked))
       (λ e. let k : length ta.forked < length ta.forked = P.fresh a ta (length ta.forked) [] tb ha (ap (map.get w.threads) (sym e) ∙ hb) in absurd (omega arith))
-  not_born w P a b ta tb ha hb (join l k i) = tt
-  not_born w P a b ta tb ha hb (arrive l n i) = tt
-  not_born w P a b ta tb ha hb (joinstep l k i) = tt
-  not_born w P a b ta tb ha hb (spend l) = tt
-  not_born w P a b ta tb ha hb end = tt
+  not_born w P a b ta tb ha hb _ = tt
 
   and_false : (x y : Bool) → y ≡ false → (x && y) ≡ false
   and_false true y e = e
@@ -85,14 +57,8 @@ module _ (M : Model) (L : ModelLaws M) where
   false_of false f = refl
 
   not_fork : (a b : Path) (ta : Thread M.Inner) (m : Move M.Inner) → Away (newborn a ta m) b → is_fork_of (kind_of a ta m) b ≡ false
-  not_fork a b ta (poke l q v i) w = refl
-  not_fork a b ta (read l s f i) w = refl
   not_fork a b ta (fork l r c i) w = is_path_sym (child a (length ta.forked)) b ∙ w
-  not_fork a b ta (join l k i) w = refl
-  not_fork a b ta (arrive l n i) w = refl
-  not_fork a b ta (joinstep l k i) w = refl
-  not_fork a b ta (spend l) w = refl
-  not_fork a b ta end w = refl
+  not_fork a b ta _ w = refl
 
   not_joined : (w : World M.Inner) → Possible M w → (a b : Path) (ta tb : Thread M.Inner) → map.get w.threads a ≡ Some ta → map.get w.threads b ≡ Some tb → IsRunning tb →
       (o : Option ℕ) → tb.joined ≡ o → names_joined (option_map (λ k. child b k) o) a ≡ false
@@ -131,8 +97,8 @@ module _ (M : Model) (L : ModelLaws M) where
       let h = or_parts (hits M.cone (kind_of a ta ma) (kind_of b tb mb)) (hits M.cone (kind_of b tb mb) (kind_of a ta ma)) free in
       let xa : ℕ = answer M w.inputs w.registers ma in
       let xb : ℕ = answer M w.inputs w.registers mb in
-      let eb : answer M (inputs_after w.inputs ma) w.registers mb ≡ xb = answer_same w.inputs w.registers a b ta tb ma mb h.0 in
-      let ea : answer M (inputs_after w.inputs mb) w.registers ma ≡ xa = answer_same w.inputs w.registers b a tb ta mb ma h.1 in
+      let eb : answer M (inputs_after M w.inputs ma) w.registers mb ≡ xb = answer_same w.inputs w.registers a b ta tb ma mb h.0 in
+      let ea : answer M (inputs_after M w.inputs mb) w.registers ma ≡ xa = answer_same w.inputs w.registers b a tb ta mb ma h.1 in
       record {
         inputs = inputs_swap w.inputs a b ta tb ma mb h.0;
         registers = refl;
@@ -143,7 +109,7 @@ module _ (M : Model) (L : ModelLaws M) where
         log = log_swap w.log (event_of a ta ma) (event_of b tb mb) ne
             (no_link w P a b ta tb ne ha hb rb (le_of_eq (sym same)) ma mb) (no_link w P b a tb ta (λ e. ne (sym e)) hb ha ra (le_of_eq same) mb ma);
         records =
-            subst (λ x. IsPermutation (recorded w.time b tb mb x ++ (recorded w.time a ta ma xa ++ w.records)) (recorded w.time a ta ma (answer M (inputs_after w.inputs mb) w.registers ma) ++ (recorded w.time b tb mb xb ++ w.records))) (sym eb)
+            subst (λ x. IsPermutation (recorded w.time b tb mb x ++ (recorded w.time a ta ma xa ++ w.records)) (recorded w.time a ta ma (answer M (inputs_after M w.inputs mb) w.registers ma) ++ (recorded w.time b tb mb xb ++ w.records))) (sym eb)
             (subst (λ x. IsPermutation (recorded w.time b tb mb xb ++ (recorded w.time a ta ma xa ++ w.records)) (recorded w.time a ta ma x ++ (recorded w.time b tb mb xb ++ w.records))) (sym ea)
             (records_swap (recorded w.time a ta ma xa) (recorded w.time b tb mb xb) w.records));
         samples = refl;

@@ -1,17 +1,19 @@
--- Worlds of a bench: what a thread does next, what its act leaves, who may act.
-use Rattle.std.specs.Prelude.{◌≡◌, ◌⊎◌, ◌↔◌, ℕ, zero, suc, ◌+◌, ◌<◌, ◌≤◌, List, [], ◌∷◌, ◌++◌, length, Bool, true, false, cond, ◌&&◌, ◌||◌, nat_lt, nat_eq, Option, Some, None, is_some, slice_index, slice_set, option_map, option_to_list, IsPermutation}
+-- Worlds of a bench: what a thread does next, what its act leaves, and who may act.
+use Rattle.std.specs.Prelude.{◌≡◌, ◌⊎◌, ◌↔◌, ℕ, zero, suc, ◌+◌, ◌<◌, ◌≤◌, List, [], ◌∷◌, ◌++◌, length, Bool, true, false, cond, ◌&&◌, ◌||◌, nat_lt, nat_eq, Option, Some, None, is_some, slice_index, slice_set, option_map, IsPermutation}
 use Rattle.std.specs.FinMap as map
 use Rattle.std.specs.FinMap.{FinMap}
 use Rattle.bench_model.specs.Paths.{Path, path_cmp, is_path, child, parent}
 use Rattle.bench_model.specs.Log.{Kind, Event, Name, NoConflict, LogAlike, link, clash}
 use Rattle.order_laws.specs.System.{System}
-use Rattle.bench_model.specs.Log.Kind.{pokes, reads, forks, ends, others}
+use Rattle.bench_model.specs.Log.Kind.{pokes, peeks, expects, forks, joins, arrives, joinsteps, spends, ends}
 
--- What a thread does next. I is what a thread keeps between two actions: statements, variables, handles, kept values.
--- A poke goes on by what the port held before, a read by what it read. What is read makes no record, or one, which may be a failure.
+-- WHAT A THREAD DOES NEXT. I is what a thread keeps between two acts: statements, variables, handles, kept values.
+-- A poke goes on by what the input held before, a peek by what it read. A peek makes a record where `shown` is true. A handle is
+-- the number of a child, in the order of its parent's forks.
 pub data Move (I : Type 0) : Type 0 where
   poke : (line port raw : ℕ) → (ℕ → I) → Move I
-  read : (line signal : ℕ) → (ℕ → Option Bool) → (ℕ → I) → Move I
+  peek : (line signal : ℕ) → (shown : Bool) → (ℕ → I) → Move I
+  expect : (line signal wanted : ℕ) → I → Move I
   fork : (line region : ℕ) → I → I → Move I
   join : (line handle : ℕ) → I → Move I
   arrive : (line edges : ℕ) → I → Move I
@@ -19,16 +21,20 @@ pub data Move (I : Type 0) : Type 0 where
   spend : (line : ℕ) → Move I
   end : Move I
 
--- What a world is over: the test's threads and the circuit.
+-- WHAT A WORLD IS OVER: the threads of a test, and a circuit.
 pub record Model : Type 1 where
+  -- what a thread keeps between two acts, and what it does next
   pub Inner : Type 0
   pub next : Inner → Move Inner
-  -- the number of a signal under inputs and registers, and which inputs it may depend on
-  pub value : List ℕ → List ℕ → ℕ → ℕ
-  pub cone : ℕ → ℕ → Bool
-  -- that what a thread of this region will do respects regions, where its children were forked into these
-  pub Fits : ℕ → List ℕ → Inner → Type 0
+  -- what an input takes of a number that is poked: its low bits
+  pub fitted : (port raw : ℕ) → ℕ
+  -- the number that a peek of a signal reads under inputs and registers, and the inputs that it may depend on
+  pub value : (inputs registers : List ℕ) (signal : ℕ) → ℕ
+  pub cone : (signal port : ℕ) → Bool
+  -- what a thread of this region will do respects regions, where its children so far were forked into these regions
+  pub Fits : (region : ℕ) (forked : List ℕ) → Inner → Type 0
 
+-- what a thread waits for: nothing, the end of a child, a number of edges, the first edge after the end of a child, or for ever
 pub data Mode : Type 0 where
   running : Mode
   at_join : ℕ → Mode
@@ -36,7 +42,8 @@ pub data Mode : Type 0 where
   at_joinstep : ℕ → Mode
   spent : ℕ → Mode
 
--- forked lists the regions of its children, the first one first; joined is the child of a join that was its last action
+-- A thread. `forked` lists the regions of its children, the first one first, so its length is the number of its forks; `acts` is
+-- the number of its acts; `joined` is the number of the child that its last act joined, if that was a join.
 pub record Thread (I : Type 0) : Type 0 where
   pub region : ℕ
   pub mode : Mode
@@ -45,6 +52,8 @@ pub record Thread (I : Type 0) : Type 0 where
   pub acts : ℕ
   pub joined : Option ℕ
 
+-- what a peek or a failed expect leaves in the report. `place` is the number of acts of its thread before; `wanted` is there
+-- exactly for a failure
 pub record Record : Type 0 where
   pub time : ℕ
   pub region : ℕ
@@ -53,12 +62,12 @@ pub record Record : Type 0 where
   pub line : ℕ
   pub signal : ℕ
   pub value : ℕ
-  pub failure : Bool
+  pub wanted : Option ℕ
 
 abbrev pub Threads : Type 0 → Type 0
 Threads I = FinMap path_cmp (Thread I)
 
--- the newest event, record and sample stand first
+-- A WORLD. The newest event, record and sample stand first; `log` has the events of this time step alone.
 pub record World (I : Type 0) : Type 0 where
   pub inputs : List ℕ
   pub registers : List ℕ
@@ -71,9 +80,11 @@ pub record World (I : Type 0) : Type 0 where
 
 -- ---- an act
 
+-- the line of the statement that acts; the end of a thread has none
 abbrev pub line_of : {I : Type 0} → Move I → ℕ
 line_of (poke l p v i) = l
-line_of (read l s f i) = l
+line_of (peek l s b i) = l
+line_of (expect l s v i) = l
 line_of (fork l r c i) = l
 line_of (join l k i) = l
 line_of (arrive l n i) = l
@@ -81,48 +92,43 @@ line_of (joinstep l k i) = l
 line_of (spend l) = l
 line_of end = 0
 
+-- what the act shows to others
 abbrev pub kind_of : {I : Type 0} → Path → Thread I → Move I → Kind
 kind_of p t (poke l q v i) = pokes q
-kind_of p t (read l s f i) = reads s
+kind_of p t (peek l s b i) = peeks s
+kind_of p t (expect l s v i) = expects s
 kind_of p t (fork l r c i) = forks (child p (length t.forked))
-kind_of p t (join l k i) = others
-kind_of p t (arrive l n i) = others
-kind_of p t (joinstep l k i) = others
-kind_of p t (spend l) = others
+kind_of p t (join l k i) = joins (child p k)
+kind_of p t (arrive l n i) = arrives
+kind_of p t (joinstep l k i) = joinsteps (child p k)
+kind_of p t (spend l) = spends
 kind_of p t end = ends
 
+-- the event that the act adds to the log
 abbrev pub event_of : {I : Type 0} → Path → Thread I → Move I → Event
 event_of p t m = record { path = p; region = t.region; joined = option_map (λ k. child p k) t.joined; line = line_of m; kind = kind_of p t m }
 
--- what the act learns from the circuit: what a port held before a poke, what was read
+-- what the act learns from the circuit: what an input held before a poke, or what was read
 abbrev pub answer : (M : Model) → (inputs registers : List ℕ) → Move M.Inner → ℕ
 answer M ins regs (poke l p v i) = slice_index ins p
-answer M ins regs (read l s f i) = M.value ins regs s
-answer M ins regs (fork l r c i) = 0
-answer M ins regs (join l k i) = 0
-answer M ins regs (arrive l n i) = 0
-answer M ins regs (joinstep l k i) = 0
-answer M ins regs (spend l) = 0
-answer M ins regs end = 0
+answer M ins regs (peek l s b i) = M.value ins regs s
+answer M ins regs (expect l s v i) = M.value ins regs s
+answer M ins regs _ = 0
 
--- what the act learns from the threads: whether the child that is joined is there
+-- what the act learns from the threads: whether the child that it joins is still there
 abbrev pub is_there : {I : Type 0} → Threads I → Path → Move I → Bool
-is_there ts p (poke l q v i) = false
-is_there ts p (read l s f i) = false
-is_there ts p (fork l r c i) = false
 is_there ts p (join l k i) = is_some (map.get ts (child p k))
-is_there ts p (arrive l n i) = false
-is_there ts p (joinstep l k i) = false
-is_there ts p (spend l) = false
-is_there ts p end = false
+is_there ts p _ = false
 
+-- the thread with one more act
 abbrev pub went : {I : Type 0} → Thread I → I → Mode → Option ℕ → List ℕ → Thread I
 went t i mode joined forked = record { region = t.region; mode = mode; inner = i; forked = forked; acts = suc t.acts; joined = joined }
 
--- the thread after its act, which is removed by its end
+-- the thread after its act; its end removes it
 abbrev pub self_after : {I : Type 0} → Thread I → Move I → (answer : ℕ) → (there : Bool) → Option (Thread I)
 self_after t (poke l p v i) a b = Some (went t (i a) running None t.forked)
-self_after t (read l s f i) a b = Some (went t (i a) running None t.forked)
+self_after t (peek l s c i) a b = Some (went t (i a) running None t.forked)
+self_after t (expect l s v i) a b = Some (went t i running None t.forked)
 self_after t (fork l r c i) a b = Some (went t i running None (t.forked ++ r ∷ []))
 self_after t (join l k i) a b = Some (went t i (cond b (at_join k) running) (Some k) t.forked)
 self_after t (arrive l n i) a b = Some (went t i (at_edges n) None t.forked)
@@ -130,37 +136,26 @@ self_after t (joinstep l k i) a b = Some (went t i (at_joinstep k) None t.forked
 self_after t (spend l) a b = Some (went t t.inner (spent l) None t.forked)
 self_after t end a b = None
 
+-- the thread that a fork makes, under the next number of its parent
 abbrev pub newborn : {I : Type 0} → Path → Thread I → Move I → Option (Path × Thread I)
-newborn p t (poke l q v i) = None
-newborn p t (read l s f i) = None
 newborn p t (fork l r c i) = Some (child p (length t.forked), record { region = r; mode = running; inner = c; forked = []; acts = 0; joined = None })
-newborn p t (join l k i) = None
-newborn p t (arrive l n i) = None
-newborn p t (joinstep l k i) = None
-newborn p t (spend l) = None
-newborn p t end = None
+newborn p t _ = None
 
--- the end of a thread makes its parent running where it waits for it by a join
+-- the thread that an act may wake, and for which child: the end of a child wakes its parent where that waits for it by a join
 abbrev pub wakes : {I : Type 0} → Path → Move I → Option (Path × ℕ)
-wakes p (poke l q v i) = None
-wakes p (read l s f i) = None
-wakes p (fork l r c i) = None
-wakes p (join l k i) = None
-wakes p (arrive l n i) = None
-wakes p (joinstep l k i) = None
-wakes p (spend l) = None
 wakes p end = parent p
+wakes p _ = None
 
 abbrev pub woken_mode : ℕ → Mode → Mode
-woken_mode k running = running
 woken_mode k (at_join j) = cond (nat_eq j k) running (at_join j)
-woken_mode k (at_edges n) = at_edges n
-woken_mode k (at_joinstep j) = at_joinstep j
-woken_mode k (spent l) = spent l
+woken_mode k mode = mode
 
 abbrev pub woken : {I : Type 0} → ℕ → Thread I → Thread I
 woken k t = record t { mode = woken_mode k t.mode }
 
+-- ---- the world after an act
+
+-- the threads with one of them replaced or removed
 abbrev pub write : {I : Type 0} → Threads I → Path → Option (Thread I) → Threads I
 write ts p None = map.remove ts p
 write ts p (Some t) = map.insert ts p t
@@ -173,35 +168,30 @@ abbrev pub birth : {I : Type 0} → Threads I → Option (Path × Thread I) → 
 birth ts None = ts
 birth ts (Some (c, u)) = write ts c (Some u)
 
+-- all threads after the act of p: one may be woken, one may be born, and p itself has acted
 abbrev pub threads_after : {I : Type 0} → Threads I → Path → Thread I → Move I → ℕ → Threads I
 threads_after ts p t m a = write (birth (wake ts (wakes p m)) (newborn p t m)) p (self_after t m a (is_there ts p m))
 
-abbrev pub inputs_after : {I : Type 0} → List ℕ → Move I → List ℕ
-inputs_after ins (poke l p v i) = slice_set ins p v
-inputs_after ins (read l s f i) = ins
-inputs_after ins (fork l r c i) = ins
-inputs_after ins (join l k i) = ins
-inputs_after ins (arrive l n i) = ins
-inputs_after ins (joinstep l k i) = ins
-inputs_after ins (spend l) = ins
-inputs_after ins end = ins
+-- a poke sets one input
+abbrev pub inputs_after : (M : Model) → List ℕ → Move M.Inner → List ℕ
+inputs_after M ins (poke l p v i) = slice_set ins p (M.fitted p v)
+inputs_after M ins _ = ins
 
+abbrev pub record_of : {I : Type 0} → ℕ → Path → Thread I → (line signal value : ℕ) → Option ℕ → Record
+record_of time p t line signal value wanted = record { time = time; region = t.region; path = p; place = t.acts; line = line; signal = signal; value = value; wanted = wanted }
+
+-- a peek that is shown makes a record, and so does an expect that finds another number than it wants
 abbrev pub recorded : {I : Type 0} → ℕ → Path → Thread I → Move I → ℕ → List Record
-recorded time p t (poke l q v i) a = []
-recorded time p t (read l s f i) a = option_to_list (option_map (λ b. record { time = time; region = t.region; path = p; place = t.acts; line = l; signal = s; value = a; failure = b }) (f a))
-recorded time p t (fork l r c i) a = []
-recorded time p t (join l k i) a = []
-recorded time p t (arrive l n i) a = []
-recorded time p t (joinstep l k i) a = []
-recorded time p t (spend l) a = []
-recorded time p t end a = []
+recorded time p t (peek l s b i) a = cond b (record_of time p t l s a None ∷ []) []
+recorded time p t (expect l s v i) a = cond (nat_eq a v) [] (record_of time p t l s a (Some v) ∷ [])
+recorded time p t _ a = []
 
 abbrev pub act_of : (M : Model) → World M.Inner → Path → Option (Thread M.Inner) → World M.Inner
 act_of M w p None = w
 act_of M w p (Some t) =
     let m = M.next t.inner in
     record {
-      inputs = inputs_after w.inputs m;
+      inputs = inputs_after M w.inputs m;
       registers = w.registers;
       threads = threads_after w.threads p t m (answer M w.inputs w.registers m);
       log = event_of p t m ∷ w.log;
@@ -245,7 +235,8 @@ pub record WorldAlike {I : Type 0} (w v : World I) : Type 0 where
 -- what the next move of a thread that fits keeps: children are forked into no lesser region, and a child that is joined is of no greater region
 abbrev pub FitsMove : (M : Model) → ℕ → List ℕ → Move M.Inner → Type 0
 FitsMove M r forked (poke l p v i) = (a : ℕ) → M.Fits r forked (i a)
-FitsMove M r forked (read l s f i) = (a : ℕ) → M.Fits r forked (i a)
+FitsMove M r forked (peek l s b i) = (a : ℕ) → M.Fits r forked (i a)
+FitsMove M r forked (expect l s v i) = M.Fits r forked i
 FitsMove M r forked (fork l q c i) = (r ≤ q) × M.Fits q [] c × M.Fits r (forked ++ q ∷ []) i
 FitsMove M r forked (join l k i) = (slice_index forked k ≤ r) × M.Fits r forked i
 FitsMove M r forked (arrive l n i) = M.Fits r forked i
