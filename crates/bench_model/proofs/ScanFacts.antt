@@ -64,7 +64,7 @@ module _ (B : Type 0) (label : Label B) (label_new : (log : List Event) (e d : E
         go (x, f, h, l, inr w) = let t = before_from log (label log d) x w in label_new log d t.0 t.1
 
     free_step : (f : Event) (log past : List Event) → (scan cone e log (f ∷ past) ≡ false → Free log (f ∷ past)) → (scan cone e log past ≡ false → Free log past) →
-        (b : Bool) → leads_to_any f past ≡ b → cond b (scan cone e log (f ∷ past)) (clash cone f.kind e.kind || scan cone e log past) ≡ false → Free (f ∷ log) past
+        (b : Bool) → leads_to_any f past ≡ b → (elim b [ true ↦ scan cone e log (f ∷ past) | false ↦ clash cone f.kind e.kind || scan cone e log past ]) ≡ false → Free (f ∷ log) past
     unfolding Free
     free_step f log past ih ih' true t s x d (inl (i, j)) c = (label log f, f, inl (refl, refl), t, inl i)
     free_step f log past ih ih' true t s x d (inr h) c = more_past f log past x t (ih s x d h c)
@@ -78,7 +78,7 @@ module _ (B : Type 0) (label : Label B) (label_new : (log : List Event) (e d : E
     scan_free (f ∷ log) past s = free_step f log past (scan_free log (f ∷ past)) (scan_free log past) (leads_to_any f past) refl s
 
     scan_step : (f : Event) (log past : List Event) → (Free log (f ∷ past) → scan cone e log (f ∷ past) ≡ false) → (Free log past → scan cone e log past ≡ false) →
-        (b : Bool) → leads_to_any f past ≡ b → Free (f ∷ log) past → cond b (scan cone e log (f ∷ past)) (clash cone f.kind e.kind || scan cone e log past) ≡ false
+        (b : Bool) → leads_to_any f past ≡ b → Free (f ∷ log) past → (elim b [ true ↦ scan cone e log (f ∷ past) | false ↦ clash cone f.kind e.kind || scan cone e log past ]) ≡ false
     unfolding Free
     scan_step f log past ih ih' true t free = ih (λ x d h c. less_past f log past x d h (free x d (inr h) c))
     scan_step f log past ih ih' false t free =
@@ -182,6 +182,6 @@ module _ (cone : ℕ → ℕ → Bool) (e : Event) where
   least_is (d ∷ log) past = go (leads_to_any d past) refl (least_is log (d ∷ past)) (least_is log past)
     where
       go : (b : Bool) → leads_to_any d past ≡ b → LeastIs log (d ∷ past) (least_scan cone e log (d ∷ past)) → LeastIs log past (least_scan cone e log past) →
-          LeastIs (d ∷ log) past (cond b (least_scan cone e log (d ∷ past)) (or_here (least_scan cone e log past) (clash cone d.kind e.kind) (length log)))
+          LeastIs (d ∷ log) past (elim b [ true ↦ least_scan cone e log (d ∷ past) | false ↦ or_here (least_scan cone e log past) (clash cone d.kind e.kind) (length log) ])
       go true t h h' = linked_step d log past t (least_scan cone e log (d ∷ past)) h
       go false t h h' = place_step d log past t (least_scan cone e log past) (clash cone d.kind e.kind) refl h'

@@ -26,7 +26,7 @@ module _ {K X Y : Type 0} (R : K → K → Ordering) (f : K → X → Y) where
   below_changed k [] = refl
   below_changed k (e ∷ es) = ap (λ b. is_lt (R k e.0) && b) (below_changed k es)
 
-  sorted_changed : (es : List (K × X)) → is_sorted R (map {B = K × Y} (λ (e : K × X). (e.0, f e.0 e.1)) es) ≡ is_sorted R es
+  pub sorted_changed : (es : List (K × X)) → is_sorted R (map {B = K × Y} (λ (e : K × X). (e.0, f e.0 e.1)) es) ≡ is_sorted R es
   sorted_changed [] = refl
   sorted_changed (e ∷ es) = ap₂ (λ b c. b && c) (below_changed e.0 es) (sorted_changed es)
 

@@ -136,7 +136,7 @@ leads_to_any d (x ∷ past) = link d x || leads_to_any d past
 
 abbrev pub scan : (cone : ℕ → ℕ → Bool) → Event → List Event → List Event → Bool
 scan cone e [] past = false
-scan cone e (d ∷ log) past = cond (leads_to_any d past) (scan cone e log (d ∷ past)) (clash cone d.kind e.kind || scan cone e log past)
+scan cone e (d ∷ log) past = elim (leads_to_any d past) [ true ↦ scan cone e log (d ∷ past) | false ↦ clash cone d.kind e.kind || scan cone e log past ]
 
 -- the new event conflicts with an event of the log
 abbrev pub conflicts : (cone : ℕ → ℕ → Bool) → List Event → Event → Bool
@@ -150,7 +150,7 @@ or_here None false n = None
 
 abbrev pub least_scan : (cone : ℕ → ℕ → Bool) → Event → List Event → List Event → Option ℕ
 least_scan cone e [] past = None
-least_scan cone e (d ∷ log) past = cond (leads_to_any d past) (least_scan cone e log (d ∷ past)) (or_here (least_scan cone e log past) (clash cone d.kind e.kind) (length log))
+least_scan cone e (d ∷ log) past = elim (leads_to_any d past) [ true ↦ least_scan cone e log (d ∷ past) | false ↦ or_here (least_scan cone e log past) (clash cone d.kind e.kind) (length log) ]
 
 -- THE LEAST PLACE of an event of the log that conflicts with the new event, or none
 abbrev pub least_place : (cone : ℕ → ℕ → Bool) → List Event → Event → Option ℕ

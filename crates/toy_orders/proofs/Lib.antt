@@ -1,2 +1,0 @@
-pub mod ToyLaws
-pub mod TwoMoves
