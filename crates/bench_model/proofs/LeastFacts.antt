@@ -13,7 +13,7 @@ use Rattle.order_laws.specs.Runs.{Run, going, settled, conflicted, bounded, runs
 use Rattle.bench_model.specs.Paths.{Path, path_cmp, is_path}
 use Rattle.bench_model.specs.World.{Model, Thread, Threads, World, Mode, Enabled, IsRunning}
 use Rattle.bench_model.specs.World.Mode.{running, at_join, at_edges, at_joinstep, spent}
-use Rattle.bench_model.specs.Settle.{is_running, Setting, Finish, steps}
+use Rattle.bench_model.specs.Settle.{is_running, quiet, Setting, Finish, steps}
 use Rattle.bench_model.specs.Orders.{is_enabled, first_enabled, least, least_of_run}
 use Rattle.bench_model.proofs.PathFacts.{is_path_refl, is_path_same}
 use Rattle.bench_model.proofs.SettleFacts.{any_found}
@@ -123,6 +123,44 @@ module _ (I : Type 0) (w : World I) where
   least_there : (p : Path) → Enabled w p → list_any (eq_by_cmp path_cmp p) (map.keys w.threads) ≡ true
   least_there p e = sym (map.contains_key-keys w.threads p) ∙ ap is_some e.here
 
+  -- ---- where somebody runs, somebody is enabled
+  no_lesser_is : (u : Thread I) → is_running u.mode ≡ true → list_any (λ (e : Path × Thread I). is_running e.1.mode && nat_lt e.1.region u.region) (map.entries w.threads) ≡ false → is_enabled w (Some u) ≡ true
+  no_lesser_is u r e = ap₂ (λ x y. x && not y) r e
+
+  entry_of : (test : Thread I → Bool) → list_any (λ (e : Path × Thread I). test e.1) (map.entries w.threads) ≡ true → (q : Path) × (u : Thread I) × (map.get w.threads q ≡ Some u) × (test u ≡ true)
+  entry_of test h =
+      let f = entry_found test (map.entries w.threads) (true_of (is_sorted path_cmp (map.entries w.threads)) (map.entries_sorted w.threads)) h in
+      (f.0, f.1, map.get-entries w.threads f.0 ∙ f.2, f.3)
+
+  abbrev Somebody : Type 0
+  Somebody = (p : Path) × Enabled w p
+
+  -- one who runs is enabled, or another of a lesser region runs
+  lower : (n : ℕ) → ((q : Path) (u : Thread I) → map.get w.threads q ≡ Some u → is_running u.mode ≡ true → u.region < n → Somebody) →
+      (q : Path) (u : Thread I) → map.get w.threads q ≡ Some u → is_running u.mode ≡ true → u.region ≤ n → Somebody
+  lower n ih q u h r le = go (list_any (λ (e : Path × Thread I). is_running e.1.mode && nat_lt e.1.region u.region) (map.entries w.threads)) refl
+    where
+      go : (b : Bool) → list_any (λ (e : Path × Thread I). is_running e.1.mode && nat_lt e.1.region u.region) (map.entries w.threads) ≡ b → Somebody
+      go false e = (q, enabled_of q (Some u) h (no_lesser_is u r e))
+      go true e =
+          let f = entry_of (λ (v : Thread I). is_running v.mode && nat_lt v.region u.region) e in
+          let b = both_of (is_running f.1.mode) (nat_lt f.1.region u.region) f.3 in
+          let lt : f.1.region < u.region = ltb-true f.1.region u.region b.1 in
+          ih f.0 f.1 f.2 b.0 (omega arith)
+
+  lowest : (n : ℕ) (q : Path) (u : Thread I) → map.get w.threads q ≡ Some u → is_running u.mode ≡ true → u.region ≤ n → Somebody
+  lowest zero = lower 0 (λ q u h r lt. absurd (omega arith))
+  lowest (suc n) = lower (suc n) (λ q u h r lt. lowest n q u h r (omega arith))
+
+  pub somebody : quiet w ≡ false → Somebody
+  somebody e =
+      let f = entry_of (λ (v : Thread I). is_running v.mode) (quiet_not (list_any (λ (e : Path × Thread I). is_running e.1.mode) (map.entries w.threads)) e) in
+      lowest f.1.region f.0 f.1 f.2 f.3 (omega arith)
+    where
+      quiet_not : (b : Bool) → not b ≡ false → b ≡ true
+      quiet_not true e = refl
+      quiet_not false e = absurd (cc)
+
 module _ (S : Setting) where
   pub least_run_enabled : (r : Run (World S.model.Inner) Finish) (p : Path) → least_of_run r ≡ Some p → RunEnabled (steps S) r p
   least_run_enabled (going t w) p e = least_enabled S.model.Inner w (map.keys w.threads) p e
@@ -135,3 +173,7 @@ module _ (S : Setting) where
   least_run_all (settled t f) e = λ p h. h
   least_run_all (conflicted w) e = λ p h. h
   least_run_all (bounded w) e = λ p h. h
+
+  -- somebody is chosen where somebody runs
+  pub least_awake : (times : List ℕ) (w : World S.model.Inner) → quiet w ≡ false → least_of_run (going times w) ≡ None → ⊥
+  least_awake times w q e = let p = somebody S.model.Inner w q in least_run_all (going times w) e p.0 p.1

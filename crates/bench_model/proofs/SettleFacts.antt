@@ -73,7 +73,7 @@ module _ (S : Setting) (L : ModelLaws S.model) where
   finish_trans : (e f g : Finish) → FinishAlike e f → FinishAlike f g → FinishAlike e g
   finish_trans e f g a b = record { ending = a.ending ∙ b.ending; time = a.time ∙ b.time; records = IsPermutation-trans e.records f.records g.records a.records b.records; samples = a.samples ∙ b.samples; actions = a.actions ∙ b.actions }
 
-  not_quiet : (w : World S.model.Inner) (p : Path) → Enabled w p → quiet w ≡ false
+  pub not_quiet : (w : World S.model.Inner) (p : Path) → Enabled w p → quiet w ≡ false
   not_quiet w p e = ap not (any_found path_cmp (λ (p : Path) (t : Thread S.model.Inner). t) (λ (t : Thread S.model.Inner). is_running t.mode) p (map.entries w.threads) e.thread
       (sym (map.get-entries w.threads p) ∙ e.here) (ap is_running e.runs))
 
@@ -84,10 +84,10 @@ module _ (S : Setting) (L : ModelLaws S.model) where
   test_of w p c None h = refl
   test_of w p c (Some t) h = conflicts_named S.model.cone (event_of p t (S.model.next t.inner)) w.log (c t h)
 
-  size_of : (w : World S.model.Inner) (p : Path) → Enabled w p → length (act S.model w p).log ≡ suc (length w.log)
+  pub size_of : (w : World S.model.Inner) (p : Path) → Enabled w p → length (act S.model w p).log ≡ suc (length w.log)
   size_of w p e = ap (λ o. length (act_of S.model w p o).log) e.here
 
-  time_of : (w : World S.model.Inner) (p : Path) (o : Option (Thread S.model.Inner)) → (act_of S.model w p o).time ≡ w.time
+  pub time_of : (w : World S.model.Inner) (p : Path) (o : Option (Thread S.model.Inner)) → (act_of S.model w p o).time ≡ w.time
   time_of w p None = refl
   time_of w p (Some t) = refl
 

@@ -4,7 +4,7 @@ use Rattle.std.specs.List.{list_any}
 use Rattle.std.specs.FinMap as map
 use Rattle.order_laws.specs.System.{Permitted, after}
 use Rattle.order_laws.specs.Runs.{Run, going, settled, conflicted, bounded, runs, Fine}
-use Rattle.order_laws.specs.EveryOrder.{chosen, actions_at, Settled}
+use Rattle.order_laws.specs.EveryOrder.{chosen, actions_at, Settled, IsOver}
 use Rattle.bench_model.specs.Paths.{Path}
 use Rattle.bench_model.specs.Log.{Event, least_place, event_at}
 use Rattle.bench_model.specs.Conflict.{IsFirstPair, HasAt, IsFree}
@@ -141,11 +141,6 @@ EveryOrder S = (order other : List Path) → Permits S order → Settles S order
 -- ANY CLEAN ORDER WILL DO: where some permitted order settles, the one-thread order is permitted and settles
 abbrev pub AnyCleanOrder : Setting → Type 0
 AnyCleanOrder S = (order : List Path) → Permits S order → Settles S order → Permits S (first_order S) × Settles S (first_order S)
-
--- the run has an outcome
-abbrev pub IsOver : {W E : Type 0} → Run W E → Type 0
-IsOver (going times w) = ⊥
-IsOver _ = Unit {0}
 
 -- THE ONE-THREAD ORDER ENDS: it is permitted, has an outcome, and has no more acts than the bound
 pub record FirstOrderEnds (S : Setting) : Type 0 where

@@ -2,18 +2,21 @@
 use Rattle.std.proofs.Common.{◌≡◌, ◌⊎◌, ⊎_elim, inl, inr, ℕ, zero, suc, ◌+◌, ◌*◌, ◌-◌, ◌≤◌, ◌<◌, max, List, [], ◌∷◌, length, refl, sym, ap, subst, arith, ◌∙◌, Bool, true, false, nat_le, Option, Some, None, leb-false, mul-le-mul_right}
 use Rattle.order_laws.specs.System.{System, after}
 use Rattle.order_laws.specs.Runs.{Steps, Run, going, settled, conflicted, bounded, settle_to, look, judge, run_act, runs}
-use Rattle.order_laws.specs.EveryOrder.{chosen_by, chosen}
-
-abbrev pub Over : {W E : Type 0} → Run W E → Type 0
-Over (going times w) = ⊥
-Over (settled times e) = Unit {0}
-Over (conflicted w) = Unit {0}
-Over (bounded w) = Unit {0}
+use Rattle.order_laws.specs.EveryOrder.{IsOver, chosen_by, chosen}
 
 -- what a settling that goes on gives: a later time step, below the limit, with no action yet and somebody who may act
 abbrev pub GoesOn : (S : Steps) → ℕ → ℕ → S.world.State ⊎ S.Finish → Type 0
 GoesOn S limit time (inl w) = (time < S.time w) × (S.time w < limit) × (S.size w ≡ 0) × (S.quiet w ≡ false)
 GoesOn S limit time (inr e) = Unit {0}
+
+-- the order of a choice has at most as many acts as it is given
+pub chosen_length : (S : System) (choose : S.State → Option S.Actor) (n : ℕ) (s : S.State) → length (chosen S choose n s) ≤ n
+chosen_length S choose zero s = omega arith
+chosen_length S choose (suc n) s = go (choose s) (λ x. chosen_length S choose n x)
+  where
+    go : (o : Option S.Actor) → ((x : S.State) → length (chosen S choose n x) ≤ n) → length (chosen_by S (λ x. chosen S choose n x) s o) ≤ suc n
+    go None ih = omega arith
+    go (Some a) ih = let h : length (chosen S choose n (S.act s a)) ≤ n = ih (S.act s a) in omega arith
 
 less_left : (limit t u b : ℕ) → t < u → u < limit → (limit - u) * b + b ≤ (limit - t) * b
 less_left limit t u b h k = let x : suc (limit - u) ≤ limit - t = omega arith in let y : suc (limit - u) * b ≤ (limit - t) * b = mul-le-mul_right b x in omega (arith, y)
@@ -27,7 +30,7 @@ module _ (S : Steps) (limit : ℕ) (choose : (runs S).State → Option S.world.A
     (settles : (s : S.world.State) → S.time s < limit → GoesOn S limit (S.time s) (S.settle s))
     (some : (t : List ℕ) (w : S.world.State) → S.quiet w ≡ false → choose (going t w) ≡ None → ⊥) where
   -- a run has at most n acts to go
-  abbrev Within : ℕ → (runs S).State → Type 0
+  abbrev pub Within : ℕ → (runs S).State → Type 0
   Within n (going t w) = (S.time w < limit) × (S.size w < max 1 S.bound) × (S.quiet w ≡ false) × ((limit - S.time w) * max 1 S.bound ≤ n + S.size w)
   Within n (settled t e) = Unit {0}
   Within n (conflicted w) = Unit {0}
@@ -47,27 +50,27 @@ module _ (S : Steps) (limit : ℕ) (choose : (runs S).State → Option S.world.A
   within_judge n t w true time size h = tt
   within_judge n t w false time size h = within_look n t w (S.quiet w) (nat_le S.bound (S.size w)) refl refl time size h
 
-  over_same : (r : (runs S).State) (a : S.world.Actor) → Over r → run_act S r a ≡ r
+  over_same : (r : (runs S).State) (a : S.world.Actor) → IsOver r → run_act S r a ≡ r
   over_same (going t w) a h = absurd h
   over_same (settled t e) a h = refl
   over_same (conflicted w) a h = refl
   over_same (bounded w) a h = refl
 
-  over_stays : (n : ℕ) (r : (runs S).State) → Over r → Over (after (runs S) r (chosen (runs S) choose n r))
+  over_stays : (n : ℕ) (r : (runs S).State) → IsOver r → IsOver (after (runs S) r (chosen (runs S) choose n r))
   over_stays zero r h = h
   over_stays (suc n) r h = go (choose r) (over_stays n r h)
     where
-      go : (o : Option S.world.Actor) → Over (after (runs S) r (chosen (runs S) choose n r)) → Over (after (runs S) r (chosen_by (runs S) (λ x. chosen (runs S) choose n x) r o))
+      go : (o : Option S.world.Actor) → IsOver (after (runs S) r (chosen (runs S) choose n r)) → IsOver (after (runs S) r (chosen_by (runs S) (λ x. chosen (runs S) choose n x) r o))
       go None k = h
-      go (Some a) k = subst (λ x. Over (after (runs S) x (chosen (runs S) choose n x))) (sym (over_same r a h)) k
+      go (Some a) k = subst (λ x. IsOver (after (runs S) x (chosen (runs S) choose n x))) (sym (over_same r a h)) k
 
   -- THE CHOSEN ORDER ENDS
-  pub ends : (n : ℕ) (r : (runs S).State) → Within n r → Over (after (runs S) r (chosen (runs S) choose n r))
+  pub ends : (n : ℕ) (r : (runs S).State) → Within n r → IsOver (after (runs S) r (chosen (runs S) choose n r))
   ends zero (going t w) (time, size, awake, h) = let k : max 1 S.bound ≤ (limit - S.time w) * max 1 S.bound = at_least (limit - S.time w) (max 1 S.bound) (omega arith) in absurd (omega arith)
   ends (suc n) (going t w) (time, size, awake, h) = go (choose (going t w)) refl (λ x k. ends n x k)
     where
-      go : (o : Option S.world.Actor) → choose (going t w) ≡ o → ((x : (runs S).State) → Within n x → Over (after (runs S) x (chosen (runs S) choose n x))) →
-          Over (after (runs S) (going t w) (chosen_by (runs S) (λ x. chosen (runs S) choose n x) (going t w) o))
+      go : (o : Option S.world.Actor) → choose (going t w) ≡ o → ((x : (runs S).State) → Within n x → IsOver (after (runs S) x (chosen (runs S) choose n x))) →
+          IsOver (after (runs S) (going t w) (chosen_by (runs S) (λ x. chosen (runs S) choose n x) (going t w) o))
       go None e ih = absurd (some t w awake e)
       go (Some a) e ih =
           let sz : S.size (S.world.act w a) ≡ suc (S.size w) = act_size t w a e in

@@ -10,6 +10,11 @@ module _ (S : System) (L : Laws S) where
   left_alike (suc n) s s' t e (a, h, c, rest) =
       (a, L.alike_enabled s s' a e h, L.alike_clean s s' a e h c, left_alike n (S.act s a) (S.act s' a) t (L.alike_act s s' a e h c) rest)
 
+  -- each state that a permitted order reaches is possible
+  pub possible_after : (o : List S.Actor) (s : S.State) → S.Possible s → Permitted S s o → S.Possible (after S s o)
+  possible_after [] s p ok = p
+  possible_after (a ∷ o) s p (h, ok) = possible_after o (S.act s a) (L.possible_act s a p h) ok
+
   -- what is said of the act of one enabled actor
   pub record Next (n : ℕ) (s t : S.State) (q : S.Actor) : Type 0 where
     pub clean : S.Clean s q

@@ -3,11 +3,19 @@ use Rattle.std.specs.Prelude.{◌≡◌, ◌⊎◌, ℕ, zero, suc, ◌+◌, ◌
 use Rattle.order_laws.specs.System.{System, Laws, Quiet, Permitted, AllClean, after, Left}
 use Rattle.order_laws.specs.Runs.{Steps, Run, going, settled, conflicted, bounded, run_act, Fine, RunAlike, RunEnabled, runs}
 
+-- the run has settled
 abbrev pub Settled : {W E : Type 0} → Run W E → Type 0
 Settled (going times w) = ⊥
 Settled (settled times e) = Unit {0}
 Settled (conflicted w) = ⊥
 Settled (bounded w) = ⊥
+
+-- the run has an outcome
+abbrev pub IsOver : {W E : Type 0} → Run W E → Type 0
+IsOver (going times w) = ⊥
+IsOver (settled times e) = Unit {0}
+IsOver (conflicted w) = Unit {0}
+IsOver (bounded w) = Unit {0}
 
 -- the time of each action
 abbrev pub times_of : {W E : Type 0} → Run W E → List ℕ
