@@ -93,6 +93,7 @@ module _ (S : Setting) (L : SettingLaws S) where
     fits = λ p t g. subst (λ (z : Thread S.model.Inner). S.model.Fits z.region z.forked z.inner) (sym (only_root p t g).1) L.root;
     regions = λ p t n u g f. absurd (no_child p [] n (only_root p t g).0 (sym (child_is p n) ∙ (only_root (child p n) u f).0));
     waits = λ p t n g r. absurd (let e : running ≡ at_join n = sym (ap (λ (z : Thread S.model.Inner). z.mode) (only_root p t g).1) ∙ r in cc);
+    used = λ p t n g j. absurd (let e : None ≡ Some n = sym (ap (λ (z : Thread S.model.Inner). z.joined) (only_root p t g).1) ∙ j in cc);
   }
 
   first_enabled_root : Enabled (first_world S) []

@@ -97,7 +97,7 @@ module _ (M : Model) (L : ModelLaws M) where
   self_fits t u (peek l s g i) x b o f e = subst (λ y. held (λ z. M.Fits z.region z.forked z.inner) y) e (f x)
   self_fits t u (expect l s g i) x b o f e = subst (λ y. held (λ z. M.Fits z.region z.forked z.inner) y) e f
   self_fits t u (fork l r c i) x b o f e = subst (λ y. held (λ z. M.Fits z.region z.forked z.inner) y) e f.2
-  self_fits t u (join l k i) x b o f e = subst (λ y. held (λ z. M.Fits z.region z.forked z.inner) y) e f.1
+  self_fits t u (join l k i) x b o f e = subst (λ y. held (λ z. M.Fits z.region z.forked z.inner) y) e f.2
   self_fits t u (arrive l n i) x b o f e = subst (λ y. held (λ z. M.Fits z.region z.forked z.inner) y) e f
   self_fits t u (joinstep l k i) x b o f e = subst (λ y. held (λ z. M.Fits z.region z.forked z.inner) y) e f
   self_fits t u (spend l) x b o f e = subst (λ y. held (λ z. M.Fits z.region z.forked z.inner) y) e o
@@ -112,7 +112,7 @@ module _ (M : Model) (L : ModelLaws M) where
   self_waits t u (join l j i) x true k f e h =
       let g : at_join j ≡ at_join k = ap (field running (λ y. y.mode)) e ∙ h in
       let n : j ≡ k = cc in
-      subst (λ y. held (λ z. (slice_index z.forked k ≤ z.region) × (z.joined ≡ Some k)) y) e (subst (λ z. slice_index t.forked z ≤ t.region) n f.0, ap Some n)
+      subst (λ y. held (λ z. (slice_index z.forked k ≤ z.region) × (z.joined ≡ Some k)) y) e (subst (λ z. slice_index t.forked z ≤ t.region) n f.1, ap Some n)
   self_waits t u (arrive l n i) x b k f e h = absurd (let g : at_edges n ≡ at_join k = ap (field running (λ y. y.mode)) e ∙ h in cc)
   self_waits t u (joinstep l j i) x b k f e h = absurd (let g : at_joinstep j ≡ at_join k = ap (field running (λ y. y.mode)) e ∙ h in cc)
   self_waits t u (spend l) x b k f e h = absurd (let g : spent l ≡ at_join k = ap (field running (λ y. y.mode)) e ∙ h in cc)
@@ -262,6 +262,21 @@ module _ (M : Model) (L : ModelLaws M) where
         ended (child p k) u (ap (child p) (sym h) ∙ sym c) m q)
         (woken_region M L i v (sym s ∙ r))
 
+  -- a child that the thread joins was forked
+  self_used : (t u : Thread M.Inner) (m : Move M.Inner) (x : ℕ) (b : Bool) (k : ℕ) → FitsMove M t.region t.forked m → self_after t m x b ≡ Some u → u.joined ≡ Some k → k < length u.forked
+  self_used t u (join l j i) x b k f e h =
+      let g : Some j ≡ Some k = ap (field None (λ y. y.joined)) e ∙ h in
+      let n : j ≡ k = cc in
+      subst (λ y. held (λ z. k < length z.forked) y) e (subst (λ z. z < length t.forked) n f.0)
+  self_used t u end x b k f e h = absurd (cc)
+  self_used t u _ x b k f e h = absurd (let g : None ≡ Some k = ap (field None (λ y. y.joined)) e ∙ h in cc)
+
+  used_after : (w : World M.Inner) → Possible M w → (a : Path) (ta : Thread M.Inner) → map.get w.threads a ≡ Some ta → (x : ℕ) (p : Path) (t : Thread M.Inner) (k : ℕ) →
+      Past w.threads a ta (M.next ta.inner) x p t → t.joined ≡ Some k → k < length t.forked
+  used_after w P a ta ha x p t k (own e f) h = self_used ta t (M.next ta.inner) x (is_there w.threads a (M.next ta.inner)) k (L.fits_next ta.region ta.forked ta.inner (P.fits a ta ha)) f h
+  used_after w P a ta ha x p t k (new e) h = absurd (let g : None ≡ Some k = sym (birth_of a p ta t (M.next ta.inner) e).fresh_joined ∙ h in cc)
+  used_after w P a ta ha x p t k (old n v e l s) h = let r : k < length v.forked = P.used p v k e (sym l.joined ∙ h) in omega (arith, ap length l.forked)
+
   none_of : {A : Type 0} (o : Option A) → ((y : A) → o ≡ Some y → ⊥) → o ≡ None
   none_of None f = refl
   none_of (Some y) f = absurd (f y refl)
@@ -278,4 +293,5 @@ module _ (M : Model) (L : ModelLaws M) where
         fits = λ p t g. fits_after w P a ta ha x p t (past p t g);
         regions = λ p t k u g h. regions_after w P a ta ha x p t k u (past p t g) (past (child p k) u h);
         waits = λ p t k g h. waits_after w P a ta ha x p t k (past p t g) h;
+        used = λ p t k g h. used_after w P a ta ha x p t k (past p t g) h;
       }

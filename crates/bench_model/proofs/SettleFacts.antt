@@ -61,7 +61,7 @@ path_is x y e = is_path_same x y e
 data TickCase (I : Type 0) (old u : Thread I) : Type 0 where
   same_thread : u ≡ old → TickCase I old u
   let_go : u.mode ≡ running → u.joined ≡ None → TickCase I old u
-  counting : (n : ℕ) → u.mode ≡ at_edges n → TickCase I old u
+  counting : (n : ℕ) → u.mode ≡ at_edges n → u.joined ≡ old.joined → TickCase I old u
 
 module _ (S : Setting) (L : ModelLaws S.model) where
   finish_refl : (e : Finish) → FinishAlike e e
@@ -150,7 +150,7 @@ module _ (S : Setting) (L : ModelLaws S.model) where
     where
       go : (b : Bool) → cond b (released t) (record t { mode = at_edges (n - 1) }) ≡ u → Ticked ts q u
       go true f = record { old = t; here = h; region = ap (λ (y : Thread S.model.Inner). y.region) (sym f); forked = ap (λ (y : Thread S.model.Inner). y.forked) (sym f); inner = ap (λ (y : Thread S.model.Inner). y.inner) (sym f); how = let_go (ap (λ (y : Thread S.model.Inner). y.mode) (sym f)) (ap (λ (y : Thread S.model.Inner). y.joined) (sym f)) }
-      go false f = record { old = t; here = h; region = ap (λ (y : Thread S.model.Inner). y.region) (sym f); forked = ap (λ (y : Thread S.model.Inner). y.forked) (sym f); inner = ap (λ (y : Thread S.model.Inner). y.inner) (sym f); how = counting (n - 1) (ap (λ (y : Thread S.model.Inner). y.mode) (sym f)) }
+      go false f = record { old = t; here = h; region = ap (λ (y : Thread S.model.Inner). y.region) (sym f); forked = ap (λ (y : Thread S.model.Inner). y.forked) (sym f); inner = ap (λ (y : Thread S.model.Inner). y.inner) (sym f); how = counting (n - 1) (ap (λ (y : Thread S.model.Inner). y.mode) (sym f)) (ap (λ (y : Thread S.model.Inner). y.joined) (sym f)) }
   tick_case ts q t h (at_joinstep k) u e = go (is_some (map.get ts (child q k))) e
     where
       go : (b : Bool) → cond b t (released t) ≡ u → Ticked ts q u
@@ -170,12 +170,17 @@ module _ (S : Setting) (L : ModelLaws S.model) where
       let a : Ticked w.threads p t = ticked w.threads p t g in
       get_tick w.threads (child p k) ∙ ap (option_map (λ z. tick_mode w.threads (child p k) z z.mode)) (P.joined p t k (a.here ∙ ap Some (sym e)) r j)
   gone w P p t k g r j (let_go e f) = absurd (let h : None ≡ Some k = sym f ∙ j in cc)
-  gone w P p t k g r j (counting n e) = absurd (let h : at_edges n ≡ running = sym e ∙ r in cc)
+  gone w P p t k g r j (counting n e f) = absurd (let h : at_edges n ≡ running = sym e ∙ r in cc)
 
   waits_on : (w : World S.model.Inner) → Possible S.model w → (p : Path) (t : Thread S.model.Inner) (k : ℕ) → (a : Ticked w.threads p t) → t.mode ≡ at_join k → TickCase S.model.Inner a.old t → (slice_index t.forked k ≤ t.region) × (t.joined ≡ Some k)
   waits_on w P p t k a h (same_thread e) = P.waits p t k (a.here ∙ ap Some (sym e)) h
   waits_on w P p t k a h (let_go e f) = absurd (let g : running ≡ at_join k = sym e ∙ h in cc)
-  waits_on w P p t k a h (counting n e) = absurd (let g : at_edges n ≡ at_join k = sym e ∙ h in cc)
+  waits_on w P p t k a h (counting n e f) = absurd (let g : at_edges n ≡ at_join k = sym e ∙ h in cc)
+
+  used_on : (w : World S.model.Inner) → Possible S.model w → (p : Path) (t : Thread S.model.Inner) (k : ℕ) → (a : Ticked w.threads p t) → t.joined ≡ Some k → TickCase S.model.Inner a.old t → k < length t.forked
+  used_on w P p t k a h (same_thread e) = P.used p t k (a.here ∙ ap Some (sym e)) h
+  used_on w P p t k a h (let_go e f) = absurd (let g : None ≡ Some k = sym f ∙ h in cc)
+  used_on w P p t k a h (counting n e f) = let r : k < length a.old.forked = P.used p a.old k a.here (sym f ∙ h) in omega (arith, ap length a.forked)
 
   possible_next : (w : World S.model.Inner) → Possible S.model w → Possible S.model (next_step S w)
   possible_next w P = record {
@@ -192,6 +197,7 @@ module _ (S : Setting) (L : ModelLaws S.model) where
         let b : Ticked w.threads (child p k) u = ticked w.threads (child p k) u h in
         b.region ∙ P.regions p a.old k b.old a.here b.here ∙ ap (λ f. slice_index f k) (sym a.forked);
     waits = λ p t k g h. waits_on w P p t k (ticked w.threads p t g) h (ticked w.threads p t g).how;
+    used = λ p t k g h. used_on w P p t k (ticked w.threads p t g) h (ticked w.threads p t g).how;
   }
 
   settle_on_possible : (again : World S.model.Inner → World S.model.Inner ⊎ Finish) → ((w : World S.model.Inner) → Possible S.model w → SettlePossible (steps S) (again w)) →

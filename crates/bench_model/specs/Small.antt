@@ -1,5 +1,5 @@
 -- A small test language and small circuits, over which the laws are stated as contracts and the examples computed.
-use Rattle.std.specs.Prelude.{◌≡◌, ℕ, ◌+◌, ◌%◌, ◌≤◌, List, [], ◌∷◌, ◌++◌, map, Bool, true, false, nat_eq, slice_index, slice_index_or}
+use Rattle.std.specs.Prelude.{◌≡◌, ℕ, ◌+◌, ◌%◌, ◌<◌, ◌≤◌, List, [], ◌∷◌, ◌++◌, length, map, Bool, true, false, nat_eq, slice_index, slice_index_or}
 use Rattle.std.specs.List.{list_any}
 use Rattle.bench_model.specs.World.{Model, Move}
 use Rattle.bench_model.specs.World.Move.{poke, peek, expect, fork, join, arrive, joinstep, spend, end}
@@ -28,14 +28,14 @@ next (joinstep_then l n k) = joinstep l n k
 next (step_then l n k) = arrive l n k
 next (stuck l) = spend l
 
--- a thread of this region forks into no lesser region, and joins no child of a greater one
+-- a thread of this region forks into no lesser region, and joins children that it forked and that are of no greater one
 abbrev pub Respects : (region : ℕ) (forked : List ℕ) → Test → Type 0
 Respects r forked done = Unit {0}
 Respects r forked (poke_then l p v k) = Respects r forked k
 Respects r forked (peek_then l s k) = Respects r forked k
 Respects r forked (expect_then l s w k) = Respects r forked k
 Respects r forked (fork_then l q c k) = (r ≤ q) × Respects q [] c × Respects r (forked ++ q ∷ []) k
-Respects r forked (join_then l n k) = (slice_index forked n ≤ r) × Respects r forked k
+Respects r forked (join_then l n k) = (n < length forked) × (slice_index forked n ≤ r) × Respects r forked k
 Respects r forked (joinstep_then l n k) = Respects r forked k
 Respects r forked (step_then l n k) = Respects r forked k
 Respects r forked (stuck l) = Unit {0}

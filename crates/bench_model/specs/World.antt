@@ -232,13 +232,14 @@ pub record WorldAlike {I : Type 0} (w v : World I) : Type 0 where
   pub time : w.time ≡ v.time
   pub actions : w.actions ≡ v.actions
 
--- what the next move of a thread that fits keeps: children are forked into no lesser region, and a child that is joined is of no greater region
+-- what the next move of a thread that fits keeps: children are forked into no lesser region, and a child that is joined was
+-- forked and is of no greater region
 abbrev pub FitsMove : (M : Model) → ℕ → List ℕ → Move M.Inner → Type 0
 FitsMove M r forked (poke l p v i) = (a : ℕ) → M.Fits r forked (i a)
 FitsMove M r forked (peek l s b i) = (a : ℕ) → M.Fits r forked (i a)
 FitsMove M r forked (expect l s v i) = M.Fits r forked i
 FitsMove M r forked (fork l q c i) = (r ≤ q) × M.Fits q [] c × M.Fits r (forked ++ q ∷ []) i
-FitsMove M r forked (join l k i) = (slice_index forked k ≤ r) × M.Fits r forked i
+FitsMove M r forked (join l k i) = (k < length forked) × (slice_index forked k ≤ r) × M.Fits r forked i
 FitsMove M r forked (arrive l n i) = M.Fits r forked i
 FitsMove M r forked (joinstep l k i) = M.Fits r forked i
 FitsMove M r forked (spend l) = Unit {0}
@@ -259,6 +260,8 @@ pub record Possible (M : Model) (w : World M.Inner) : Type 0 where
   pub regions : (p : Path) (t : Thread M.Inner) (k : ℕ) (u : Thread M.Inner) → map.get w.threads p ≡ Some t → map.get w.threads (child p k) ≡ Some u → u.region ≡ slice_index t.forked k
   -- a thread waits for no child of a greater region, and for the child that it joined
   pub waits : (p : Path) (t : Thread M.Inner) (k : ℕ) → map.get w.threads p ≡ Some t → t.mode ≡ at_join k → (slice_index t.forked k ≤ t.region) × (t.joined ≡ Some k)
+  -- a child that was joined was forked
+  pub used : (p : Path) (t : Thread M.Inner) (k : ℕ) → map.get w.threads p ≡ Some t → t.joined ≡ Some k → k < length t.forked
 
 -- the worlds of a model as a machine
 abbrev pub worlds : Model → System
