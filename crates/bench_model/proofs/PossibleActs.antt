@@ -21,14 +21,14 @@ held P (Some t) = P t
 
 module _ (M : Model) (L : ModelLaws M) where
   -- a thread keeps the list of its children's regions, or adds one
-  record Grows (t u : Thread M.Inner) : Type 0 where
-    longer : length t.forked ≤ length u.forked
-    same : (k : ℕ) → k < length t.forked → slice_index u.forked k ≡ slice_index t.forked k
+  pub record Grows (t u : Thread M.Inner) : Type 0 where
+    pub longer : length t.forked ≤ length u.forked
+    pub same : (k : ℕ) → k < length t.forked → slice_index u.forked k ≡ slice_index t.forked k
 
   grows_same : (t u : Thread M.Inner) → u.forked ≡ t.forked → Grows t u
   grows_same t u e = record { longer = le_of_eq (ap length (sym e)); same = λ k h. ap (λ xs. slice_index xs k) e }
 
-  self_grows : (t u : Thread M.Inner) (m : Move M.Inner) (x : ℕ) (b : Bool) → self_after t m x b ≡ Some u → Grows t u
+  pub self_grows : (t u : Thread M.Inner) (m : Move M.Inner) (x : ℕ) (b : Bool) → self_after t m x b ≡ Some u → Grows t u
   self_grows t u (poke l q v i) x b e = grows_same t u (ap (field t.forked (λ y. y.forked)) (sym e))
   self_grows t u (peek l s f i) x b e = grows_same t u (ap (field t.forked (λ y. y.forked)) (sym e))
   self_grows t u (expect l s f i) x b e = grows_same t u (ap (field t.forked (λ y. y.forked)) (sym e))
@@ -41,14 +41,14 @@ module _ (M : Model) (L : ModelLaws M) where
   self_grows t u (spend l) x b e = grows_same t u (ap (field t.forked (λ y. y.forked)) (sym e))
   self_grows t u end x b e = absurd (cc)
 
-  record Like (v u : Thread M.Inner) : Type 0 where
-    forked : u.forked ≡ v.forked
-    region : u.region ≡ v.region
-    inner : u.inner ≡ v.inner
-    joined : u.joined ≡ v.joined
+  pub record Like (v u : Thread M.Inner) : Type 0 where
+    pub forked : u.forked ≡ v.forked
+    pub region : u.region ≡ v.region
+    pub inner : u.inner ≡ v.inner
+    pub joined : u.joined ≡ v.joined
 
   -- the thread u at q after the act of a, by what it was before
-  data Past (ts : Threads M.Inner) (a : Path) (ta : Thread M.Inner) (m : Move M.Inner) (x : ℕ) (q : Path) (u : Thread M.Inner) : Type 0 where
+  pub data Past (ts : Threads M.Inner) (a : Path) (ta : Thread M.Inner) (m : Move M.Inner) (x : ℕ) (q : Path) (u : Thread M.Inner) : Type 0 where
     own : q ≡ a → self_after ta m x (is_there ts a m) ≡ Some u → Past ts a ta m x q u
     new : newborn a ta m ≡ Some (q, u) → Past ts a ta m x q u
     old : (q ≡ a → ⊥) → (v : Thread M.Inner) → map.get ts q ≡ Some v → Like v u →
@@ -58,7 +58,7 @@ module _ (M : Model) (L : ModelLaws M) where
   rouses_end a end z e = refl
   rouses_end a _ z e = absurd (cc)
 
-  past_of : (ts : Threads M.Inner) (a : Path) (ta : Thread M.Inner) (m : Move M.Inner) (x : ℕ) (q : Path) (u : Thread M.Inner) → Origin ts a ta m x q u → Past ts a ta m x q u
+  pub past_of : (ts : Threads M.Inner) (a : Path) (ta : Thread M.Inner) (m : Move M.Inner) (x : ℕ) (q : Path) (u : Thread M.Inner) → Origin ts a ta m x q u → Past ts a ta m x q u
   past_of ts a ta m x q u (itself e f) = own e f
   past_of ts a ta m x q u (born e) = new e
   past_of ts a ta m x q u (roused k v e g s) =
@@ -69,15 +69,15 @@ module _ (M : Model) (L : ModelLaws M) where
   past_of ts a ta m x q u (kept n g) = old n u g (record { forked = refl; region = refl; inner = refl; joined = refl }) (inl refl)
 
   -- what is born: where, and as what
-  record Birth (a q : Path) (ta u : Thread M.Inner) (m : Move M.Inner) : Type 0 where
-    place : q ≡ child a (length ta.forked)
-    none : u.forked ≡ []
-    runs : u.mode ≡ running
-    fresh_joined : u.joined ≡ None
-    grown : (x : ℕ) (b : Bool) (t : Thread M.Inner) → self_after ta m x b ≡ Some t → t.forked ≡ ta.forked ++ u.region ∷ []
-    fits : FitsMove M ta.region ta.forked m → M.Fits u.region u.forked u.inner
+  pub record Birth (a q : Path) (ta u : Thread M.Inner) (m : Move M.Inner) : Type 0 where
+    pub place : q ≡ child a (length ta.forked)
+    pub none : u.forked ≡ []
+    pub runs : u.mode ≡ running
+    pub fresh_joined : u.joined ≡ None
+    pub grown : (x : ℕ) (b : Bool) (t : Thread M.Inner) → self_after ta m x b ≡ Some t → t.forked ≡ ta.forked ++ u.region ∷ []
+    pub fits : FitsMove M ta.region ta.forked m → M.Fits u.region u.forked u.inner
 
-  birth_of : (a q : Path) (ta u : Thread M.Inner) (m : Move M.Inner) → newborn a ta m ≡ Some (q, u) → Birth a q ta u m
+  pub birth_of : (a q : Path) (ta u : Thread M.Inner) (m : Move M.Inner) → newborn a ta m ≡ Some (q, u) → Birth a q ta u m
   birth_of a q ta u (fork l r c i) e =
       let z : Thread M.Inner = record { region = r; mode = running; inner = c; forked = []; acts = 0; joined = None } in
       let g : z ≡ u = ap (λ (y : Option (Path × Thread M.Inner)). elim y [ None ↦ z | Some w ↦ w.1 ]) e in

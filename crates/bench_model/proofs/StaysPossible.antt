@@ -35,7 +35,7 @@ module _ (M : Model) (L : ModelLaws M) where
 
   module _ (w : World M.Inner) (P : Possible M w) (a : Path) (ta : Thread M.Inner) (ha : map.get w.threads a ≡ Some ta) where
     -- no act makes a thread of a lesser region running
-    no_lesser : (n : ℕ) → n ≤ ta.region → ((q : Path) (u : Thread M.Inner) → map.get w.threads q ≡ Some u → IsRunning u → n ≤ u.region) →
+    pub no_lesser : (n : ℕ) → n ≤ ta.region → ((q : Path) (u : Thread M.Inner) → map.get w.threads q ≡ Some u → IsRunning u → n ≤ u.region) →
         (x : ℕ) (q : Path) (u : Thread M.Inner) → Origin w.threads a ta (M.next ta.inner) x q u → IsRunning u → n ≤ u.region
     no_lesser n h least x q u (itself _ e) r = subst (λ y. n ≤ y) (sym (self_region M.Inner ta u (M.next ta.inner) x (is_there w.threads a (M.next ta.inner)) e)) h
     no_lesser n h least x q u (born e) r =
