@@ -55,18 +55,22 @@ module _ (M : Model) (L : ModelLaws M) where
         (woken_region M L k v (ap (λ (y : Thread M.Inner). y.mode) s ∙ rb))
     was_there (kept n g) = g
 
-  -- ENABLED AFTER AN ACT THAT IS NOT BEFORE IT, enabled before it
+  -- ENABLED AFTER AN ACT THAT IS NOT BEFORE IT, enabled before it, as the same thread
   pub enabled_before : (w : World M.Inner) → Possible M w → (a b : Path) → (a ≡ b → ⊥) → (ea : Enabled w a) → (eb : Enabled (act_of M w a (Some ea.thread)) b) →
-      link (event_of a ea.thread (M.next ea.thread.inner)) (event_of b eb.thread (M.next eb.thread.inner)) ≡ false → Enabled w b
+      link (event_of a ea.thread (M.next ea.thread.inner)) (event_of b eb.thread (M.next eb.thread.inner)) ≡ false → Enabled w b × (map.get w.threads b ≡ Some eb.thread)
   enabled_before w P a b ne ea eb f =
       let x : ℕ = answer M w.inputs w.registers (M.next ea.thread.inner) in
       let u : Unlinked a b ea.thread eb.thread = unlinked a b ea.thread eb.thread f in
-      record {
-        thread = eb.thread;
-        here = was_there w P a b ne ea x eb.thread eb.runs u (origin M.Inner w.threads a ea.thread (M.next ea.thread.inner) x b eb.thread eb.here);
-        runs = eb.runs;
-        least = λ q v h r. go q v h r (ltb-false ea.thread.region eb.thread.region u.no_region) (same_path a q);
-      }
+      let here : map.get w.threads b ≡ Some eb.thread = was_there w P a b ne ea x eb.thread eb.runs u (origin M.Inner w.threads a ea.thread (M.next ea.thread.inner) x b eb.thread eb.here) in
+      (
+        record {
+          thread = eb.thread;
+          here = here;
+          runs = eb.runs;
+          least = λ q v h r. go q v h r (ltb-false ea.thread.region eb.thread.region u.no_region) (same_path a q);
+        },
+        here,
+      )
     where
       go : (q : Path) (v : Thread M.Inner) → map.get w.threads q ≡ Some v → IsRunning v → eb.thread.region ≤ ea.thread.region → (a ≡ q) ⊎ (a ≡ q → ⊥) → eb.thread.region ≤ v.region
       go q v h r le (inl e) = let s : Some ea.thread ≡ Some v = sym ea.here ∙ ap (map.get w.threads) e ∙ h in let t : ea.thread ≡ v = cc in subst (λ (y : Thread M.Inner). eb.thread.region ≤ y.region) t le

@@ -30,7 +30,7 @@ limited_none l t r a n e = go (nat_lt l.threads t) (nat_lt l.records r) (nat_lt 
     go false false false true h k = absurd (cc)
     go false false false false h k = leb-false l.time_steps (suc n) h
 
-verdict_none : {I : Type 0} (l : Limits) (w : World I) → verdict l w ≡ None → suc w.time < l.time_steps
+pub verdict_none : {I : Type 0} (l : Limits) (w : World I) → verdict l w ≡ None → suc w.time < l.time_steps
 verdict_none l w e = go (list_any (fails_now w.time) w.records) (first_spent (map.entries w.threads)) (is_some (map.get w.threads [])) e
   where
     go : (b : Bool) (o : Option (ℕ × Path × ℕ)) (root : Bool) →

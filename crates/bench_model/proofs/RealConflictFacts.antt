@@ -22,7 +22,7 @@ IsReal cone (bounded w) = AllFree cone w.log
 
 module _ (S : Setting) where
   -- a new time step has an empty log
-  abbrev Empties : World S.model.Inner ⊎ Finish → Type 0
+  abbrev pub Empties : World S.model.Inner ⊎ Finish → Type 0
   Empties (inl w) = w.log ≡ []
   Empties (inr e) = Unit {0}
 
@@ -34,7 +34,7 @@ module _ (S : Setting) where
   empties_by again h w (Some o) = tt
   empties_by again h w None = empties_on again h (next_step S w) (quiet (next_step S w)) refl
 
-  empties : (n : ℕ) (w : World S.model.Inner) → Empties (settle_from S n w)
+  pub empties : (n : ℕ) (w : World S.model.Inner) → Empties (settle_from S n w)
   empties zero w = tt
   empties (suc n) w = empties_by (λ v. settle_from S n v) (empties n) w (verdict S.limits w)
 

@@ -8,8 +8,9 @@ use Rattle.order_laws.specs.EveryOrder.{chosen, actions_at, Settled, IsOver}
 use Rattle.bench_model.specs.Paths.{Path}
 use Rattle.bench_model.specs.Log.{Event, least_place, event_at}
 use Rattle.bench_model.specs.Conflict.{IsFirstPair, HasAt, IsFree}
+use Rattle.bench_model.specs.Formed.{Formed}
 use Rattle.bench_model.specs.Sorting.{record_le, sorted}
-use Rattle.bench_model.specs.World.{Model, Thread, World, Record}
+use Rattle.bench_model.specs.World.{Model, Thread, World, Record, Enabled, act}
 use Rattle.bench_model.specs.World.Mode.{running}
 use Rattle.bench_model.specs.Settle.{Ending, is_running, Setting, Finish, steps}
 
@@ -169,3 +170,8 @@ pub record RealConflict (S : Setting) (order : List Path) (w : World S.model.Inn
 abbrev pub RealConflicts : Setting → Type 0
 RealConflicts S = (order : List Path) → Permits S order → (w : World S.model.Inner) → replay S order ≡ conflicted w →
     RealConflict S order w × ((other : List Path) → Permits S other → Settles S other → ⊥)
+
+-- THE LOG IS FORMED: in each world that a permitted order reaches, and after the act of each enabled thread there
+abbrev pub LogsFormed : Setting → Type 0
+LogsFormed S = (order : List Path) → Permits S order → (times : List ℕ) (w : World S.model.Inner) → replay S order ≡ going times w →
+    Formed w.log × ((p : Path) → Enabled w p → Formed (act S.model w p).log)
