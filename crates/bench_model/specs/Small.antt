@@ -82,3 +82,7 @@ setting c l k = record {
   registers = c.registers;
   root = k;
 }
+
+-- AT EACH SMALL TEST that respects regions, over each small circuit and within each limits
+abbrev pub AtEachTest : (Setting → Type 0) → Type 0
+AtEachTest Claim = (c : Circuit) (l : Limits) (k : Test) → Respects 0 [] k → Claim (setting c l k)
