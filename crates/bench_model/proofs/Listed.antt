@@ -73,7 +73,7 @@ module _ {I : Type 0} where
   write_row es p None = without p es
   write_row es p (Some t) = put path_cmp p t es
 
-  entries_write : (ts : Threads I) (p : Path) (o : Option (Thread I)) → map.entries (write ts p o) ≡ write_row (map.entries ts) p o
+  pub entries_write : (ts : Threads I) (p : Path) (o : Option (Thread I)) → map.entries (write ts p o) ≡ write_row (map.entries ts) p o
   entries_write ts p None = entries_remove ts p
   entries_write ts p (Some t) = entries_insert ts p t
 
@@ -81,7 +81,7 @@ module _ {I : Type 0} where
   wake_row es None = es
   wake_row es (Some (q, k)) = write_row es q (option_map (woken k) (find path_cmp q es))
 
-  entries_wake : (ts : Threads I) (o : Option (Path × ℕ)) → map.entries (wake ts o) ≡ wake_row (map.entries ts) o
+  pub entries_wake : (ts : Threads I) (o : Option (Path × ℕ)) → map.entries (wake ts o) ≡ wake_row (map.entries ts) o
   entries_wake ts None = refl
   entries_wake ts (Some (q, k)) = entries_write ts q (option_map (woken k) (map.get ts q)) ∙ ap (λ o. write_row (map.entries ts) q (option_map (woken k) o)) (map.get-entries ts q)
 
@@ -89,7 +89,7 @@ module _ {I : Type 0} where
   birth_row es None = es
   birth_row es (Some (c, u)) = write_row es c (Some u)
 
-  entries_birth : (ts : Threads I) (o : Option (Path × Thread I)) → map.entries (birth ts o) ≡ birth_row (map.entries ts) o
+  pub entries_birth : (ts : Threads I) (o : Option (Path × Thread I)) → map.entries (birth ts o) ≡ birth_row (map.entries ts) o
   entries_birth ts None = refl
   entries_birth ts (Some (c, u)) = entries_write ts c (Some u)
 
@@ -97,7 +97,7 @@ module _ {I : Type 0} where
   there_row es p (join l k i) = is_some (find path_cmp (child p k) es)
   there_row es p _ = false
 
-  there_same : (ts : Threads I) (p : Path) (m : Move I) → is_there ts p m ≡ there_row (map.entries ts) p m
+  pub there_same : (ts : Threads I) (p : Path) (m : Move I) → is_there ts p m ≡ there_row (map.entries ts) p m
   there_same ts p (join l k i) = ap is_some (map.get-entries ts (child p k))
   there_same ts p _ = refl
 
@@ -119,7 +119,7 @@ module _ {I : Type 0} where
   enabled_row es None = false
   enabled_row es (Some t) = is_running t.mode && not (list_any (λ e. is_running e.1.mode && nat_lt e.1.region t.region) es)
 
-  enabled_same : (w : World I) (o : Option (Thread I)) → is_enabled w o ≡ enabled_row (map.entries w.threads) o
+  pub enabled_same : (w : World I) (o : Option (Thread I)) → is_enabled w o ≡ enabled_row (map.entries w.threads) o
   enabled_same w None = refl
   enabled_same w (Some t) = refl
 
@@ -167,7 +167,7 @@ listed_act_of M w p (Some t) =
       actions = suc w.actions;
     }
 
-with_rows : {I : Type 0} (w : Listed I) (es fs : List (Path × Thread I)) → es ≡ fs → record w { rows = es } ≡ record w { rows = fs }
+pub with_rows : {I : Type 0} (w : Listed I) (es fs : List (Path × Thread I)) → es ≡ fs → record w { rows = es } ≡ record w { rows = fs }
 with_rows w es fs e = ap (λ z. record w { rows = z }) e
 
 act_listed : (M : Model) (w : World M.Inner) (p : Path) (o : Option (Thread M.Inner)) → listed (act_of M w p o) ≡ listed_act_of M (listed w) p o
@@ -222,25 +222,22 @@ module _ (S : Setting) where
   listed_from zero w = inr (listed_finish w time_limit)
   listed_from (suc n) w = listed_by (λ v. listed_from n v) w (listed_verdict w)
 
-  Seen : World S.model.Inner ⊎ Finish → Rowed ⊎ Finish
+  abbrev pub Seen : World S.model.Inner ⊎ Finish → Rowed ⊎ Finish
   Seen x = map_settle listed (λ e. e) x
 
   on_listed : (n : ℕ) → ((v : World S.model.Inner) → Seen (settle_from S n v) ≡ listed_from n (listed v)) → (w : World S.model.Inner) (b : Bool) →
       Seen (settle_on S (λ v. settle_from S n v) w b) ≡ listed_on (λ v. listed_from n v) (listed w) b
-  unfolding Seen
   on_listed n ih w true = ih w
   on_listed n ih w false = refl
 
   by_listed : (n : ℕ) → ((v : World S.model.Inner) → Seen (settle_from S n v) ≡ listed_from n (listed v)) → (w : World S.model.Inner) (o : Option Ending) →
       Seen (settle_by S (λ v. settle_from S n v) w o) ≡ listed_by (λ v. listed_from n v) (listed w) o
-  unfolding Seen
   by_listed n ih w (Some o) = refl
   by_listed n ih w None =
       on_listed n ih (next_step S w) (quiet (next_step S w))
       ∙ ap (λ v. listed_on (λ v. listed_from n v) v (quiet_rows v.rows)) (next_listed w)
 
-  from_listed : (n : ℕ) (w : World S.model.Inner) → Seen (settle_from S n w) ≡ listed_from n (listed w)
-  unfolding Seen
+  pub from_listed : (n : ℕ) (w : World S.model.Inner) → Seen (settle_from S n w) ≡ listed_from n (listed w)
   from_listed zero w = refl
   from_listed (suc n) w = by_listed n (from_listed n) w (verdict S.limits w) ∙ ap (listed_by (λ v. listed_from n v) (listed w)) (verdict_listed w)
 
@@ -276,7 +273,6 @@ module _ (S : Setting) where
   }
 
   mirrors : Mirrors (steps S) listed_steps listed (λ e. e) (λ p. p)
-  unfolding Seen
   mirrors = record {
     act = λ w p. act_listed S.model w p (map.get w.threads p) ∙ ap (listed_act_of S.model (listed w) p) (map.get-entries w.threads p);
     quiet = λ w. refl;
@@ -290,11 +286,11 @@ module _ (S : Setting) where
   abbrev pub listed_start : Run Rowed Finish
   listed_start = going [] (record { inputs = S.inputs; registers = S.registers; rows = ([], root_thread S.root) ∷ []; log = []; records = []; samples = []; time = 0; actions = 0 })
 
-  start_listed : map_run listed (λ e. e) (start S) ≡ listed_start
+  pub start_listed : map_run listed (λ e. e) (start S) ≡ listed_start
   start_listed = ap (λ es. going [] (record { inputs = S.inputs; registers = S.registers; rows = es; log = []; records = []; samples = []; time = 0; actions = 0 }))
       (entries_insert map.empty [] (root_thread S.root) ∙ ap (put path_cmp [] (root_thread S.root)) entries_empty)
 
-  map_same : (order : List Path) → map (λ p. p) order ≡ order
+  pub map_same : (order : List Path) → map (λ p. p) order ≡ order
   map_same [] = refl
   map_same (p ∷ order) = ap (λ l. p ∷ l) (map_same order)
 
@@ -333,7 +329,7 @@ module _ (S : Setting) where
   listed_run_of (conflicted w) = option_map (λ pair. record { records = sorted record_le w.records; samples = reverse w.samples; actions = w.actions; outcome = conflict w.time pair.0 pair.1 }) (named_pair S.model.cone w.log)
   listed_run_of (bounded w) = Some (record { records = sorted record_le w.records; samples = reverse w.samples; actions = w.actions; outcome = step_limit w.time })
 
-  run_listed : (r : RunOf S) → run_of S r ≡ listed_run_of (map_run listed (λ e. e) r)
+  pub run_listed : (r : RunOf S) → run_of S r ≡ listed_run_of (map_run listed (λ e. e) r)
   run_listed (going times w) = refl
   run_listed (settled times e) = refl
   run_listed (conflicted w) = refl

@@ -54,6 +54,10 @@ two_children x y = fork_then 1 0 x (fork_then 2 0 y (join_then 3 0 (join_then 3 
 abbrev pub two_pokes : Test
 two_pokes = two_children (poke_then 1 0 1 done) (poke_then 2 0 1 done)
 
+-- one pokes a with 1 and then with 2, the other pokes it with 2
+abbrev pub three_pokes : Test
+three_pokes = two_children (poke_then 1 0 1 (poke_then 1 0 2 done)) (poke_then 2 0 2 done)
+
 -- one pokes a, the other peeks out
 abbrev pub race : Test
 race = two_children (poke_then 1 0 1 done) (peek_then 2 2 done)
