@@ -1,7 +1,7 @@
 -- The order of a choice ends, after at most `bound` (at least 1) actions in each of at most `steps` time steps.
-use Rattle.std.proofs.Common.{◌≡◌, ◌⊎◌, ⊎_elim, inl, inr, ℕ, zero, suc, ◌+◌, ◌*◌, ◌-◌, ◌≤◌, ◌<◌, max, List, [], ◌∷◌, length, refl, sym, ap, subst, arith, ◌∙◌, Bool, true, false, nat_le, Option, Some, None, leb-false, mul-le-mul_right}
+use Rattle.std.proofs.Common.{◌≡◌, ◌⊎◌, inl, inr, ℕ, zero, suc, ◌+◌, ◌*◌, ◌-◌, ◌≤◌, ◌<◌, max, List, ◌∷◌, length, refl, sym, subst, arith, Bool, true, false, nat_le, Option, Some, None, leb-false, mul-le-mul_right}
 use Rattle.order_laws.specs.System.{System, after}
-use Rattle.order_laws.specs.Runs.{Steps, Run, going, settled, conflicted, bounded, settle_to, look, judge, run_act, runs}
+use Rattle.order_laws.specs.Runs.{Steps, going, settled, conflicted, bounded, settle_to, look, judge, run_act, runs}
 use Rattle.order_laws.specs.EveryOrder.{IsOver, chosen_by, chosen}
 
 -- what a settling that goes on gives: a later time step, below the limit, with no action yet and somebody who may act

@@ -1,5 +1,5 @@
 -- Where one order of a machine ends clean, every order does, and all end alike.
-use Rattle.std.proofs.Common.{◌≡◌, ◌⊎◌, ⊎_elim, inl, inr, ℕ, zero, suc, ◌+◌, List, [], ◌∷◌, length, refl, sym, ap, subst, arith, ◌∙◌}
+use Rattle.std.proofs.Common.{◌≡◌, ⊎_elim, ℕ, zero, suc, ◌+◌, List, [], ◌∷◌, length, refl, sym, ap, subst, arith}
 use Rattle.order_laws.specs.System.{System, Laws, Quiet, Permitted, AllClean, after, Left}
 
 module _ (S : System) (L : Laws S) where

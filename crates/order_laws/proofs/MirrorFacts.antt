@@ -1,7 +1,7 @@
 -- The runs of a machine and of one that mirrors it go together.
-use Rattle.std.proofs.Common.{◌≡◌, ◌⊎◌, inl, inr, ℕ, zero, suc, List, [], ◌∷◌, map, refl, sym, ap, ap₂, subst, ◌∙◌, Bool, true, false, nat_le, Option, Some, None, option_map}
-use Rattle.order_laws.specs.System.{System, after}
-use Rattle.order_laws.specs.Runs.{Steps, Run, going, settled, conflicted, bounded, settle_to, look, judge, run_act, runs}
+use Rattle.std.proofs.Common.{◌≡◌, ◌⊎◌, inl, inr, ℕ, zero, suc, List, [], ◌∷◌, map, refl, ap, ap₂, ◌∙◌, Bool, true, false, nat_le, Option, Some, None, option_map}
+use Rattle.order_laws.specs.System.{after}
+use Rattle.order_laws.specs.Runs.{Steps, going, settled, conflicted, bounded, settle_to, look, judge, run_act, runs}
 use Rattle.order_laws.specs.EveryOrder.{chosen_by, chosen}
 use Rattle.order_laws.specs.Mirror.{map_settle, map_run, Mirrors}
 

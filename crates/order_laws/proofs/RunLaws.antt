@@ -1,7 +1,7 @@
 -- Whole runs meet the laws of a machine, if their time steps do.
-use Rattle.std.proofs.Common.{◌≡◌, ◌⊎◌, ⊎_elim, inl, inr, ℕ, zero, suc, ◌+◌, List, [], ◌∷◌, length, refl, sym, ap, ap₂, subst, arith, ◌∙◌, Bool, true, false, nat_le}
-use Rattle.order_laws.specs.System.{System, Laws, Quiet, Permitted, AllClean, after, Left}
-use Rattle.order_laws.specs.Runs.{Steps, Run, going, settled, conflicted, bounded, settle_to, look, judge, run_act, Fine, RunAlike, RunPossible, RunEnabled, runs, SettleAlike, SettlePossible, StepLaws}
+use Rattle.std.proofs.Common.{◌≡◌, ◌⊎◌, inl, inr, ℕ, List, ◌∷◌, refl, sym, ap, ap₂, subst, ◌∙◌, Bool, true, false, nat_le}
+use Rattle.order_laws.specs.System.{Laws}
+use Rattle.order_laws.specs.Runs.{Steps, going, settled, conflicted, bounded, settle_to, look, judge, run_act, Fine, RunAlike, RunPossible, RunEnabled, runs, SettleAlike, SettlePossible, StepLaws}
 
 module _ (S : Steps) (L : StepLaws S) where
   refl_run : (r : (runs S).State) → RunAlike S r r

@@ -1,10 +1,10 @@
 -- The theorem on every order of whole runs.
-use Rattle.std.proofs.Common.{◌≡◌, ◌⊎◌, ⊎_elim, inl, inr, ℕ, zero, suc, ◌+◌, ◌≤◌, List, [], ◌∷◌, ◌++◌, length, refl, sym, ap, ap₂, subst, arith, ◌∙◌, Bool, true, false, nat_le, nat_eq, Option, Some, None, count_by, le_refl, le_trans, cond}
+use Rattle.std.proofs.Common.{◌≡◌, ◌⊎◌, ⊎_elim, inl, inr, ℕ, zero, suc, ◌≤◌, List, [], ◌∷◌, ◌++◌, length, refl, sym, subst, arith, Bool, true, false, nat_le, nat_eq, Option, Some, None, count_by, le_refl, le_trans}
 use Rattle.std.proofs.lemmas.Grind.{common_steps}
 use Rattle.order_laws.specs.System.{System, Laws, Quiet, Permitted, AllClean, after, Left}
-use Rattle.order_laws.specs.Runs.{Steps, Run, going, settled, conflicted, bounded, settle_to, look, judge, run_act, Fine, RunAlike, RunPossible, RunEnabled, runs, StepLaws}
+use Rattle.order_laws.specs.Runs.{Steps, going, settled, conflicted, bounded, settle_to, look, judge, run_act, Fine, RunAlike, RunPossible, RunEnabled, runs, StepLaws}
 use Rattle.order_laws.specs.EveryOrder.{Settled, times_of, actions_at, Follows, chosen_by, chosen}
-use Rattle.order_laws.proofs.EveryOrder.{Every, every_order, Rest, rest_of, left_of, whole_order, Next, next_of, left_alike}
+use Rattle.order_laws.proofs.EveryOrder.{Every, every_order, Rest, rest_of, left_of, whole_order, Next, next_of}
 use Rattle.order_laws.proofs.RunLaws.{run_laws}
 
 -- ---- orders that go on

@@ -1,7 +1,7 @@
 -- What is claimed of every order.
-use Rattle.std.specs.Prelude.{◌≡◌, ◌⊎◌, ℕ, zero, suc, ◌+◌, ◌<◌, ◌≤◌, List, [], ◌∷◌, ◌++◌, length, Bool, true, false, nat_le, nat_eq, Option, Some, None, count_by}
-use Rattle.order_laws.specs.System.{System, Laws, Quiet, Permitted, AllClean, after, Left}
-use Rattle.order_laws.specs.Runs.{Steps, Run, going, settled, conflicted, bounded, run_act, Fine, RunAlike, RunEnabled, runs}
+use Rattle.std.specs.Prelude.{ℕ, zero, suc, ◌≤◌, List, [], ◌∷◌, ◌++◌, nat_eq, Option, Some, None, count_by}
+use Rattle.order_laws.specs.System.{System, Permitted, after}
+use Rattle.order_laws.specs.Runs.{Steps, Run, going, settled, conflicted, bounded, Fine, RunAlike, runs}
 
 -- the run has settled
 abbrev pub Settled : {W E : Type 0} → Run W E → Type 0

@@ -1,8 +1,7 @@
 -- One machine that does what another does, seen through a map of their states.
-use Rattle.std.specs.Prelude.{◌≡◌, ◌⊎◌, ℕ, List, Bool, Option, option_map}
+use Rattle.std.specs.Prelude.{◌≡◌, ◌⊎◌}
 use mathlib.Core.Logic.{inl, inr}
-use Rattle.order_laws.specs.System.{System}
-use Rattle.order_laws.specs.Runs.{Steps, Run, going, settled, conflicted, bounded, runs}
+use Rattle.order_laws.specs.Runs.{Steps, Run, going, settled, conflicted, bounded}
 
 abbrev pub map_settle : {W V E F : Type 0} → (W → V) → (E → F) → W ⊎ E → V ⊎ F
 map_settle f g (inl w) = inl (f w)

@@ -1,5 +1,5 @@
 -- Whole runs: time steps, each of which ends where no actor may act, with outcomes.
-use Rattle.std.specs.Prelude.{◌≡◌, ◌⊎◌, ℕ, zero, suc, ◌+◌, ◌<◌, ◌≤◌, List, [], ◌∷◌, length, Bool, true, false, nat_le}
+use Rattle.std.specs.Prelude.{◌≡◌, ◌⊎◌, ℕ, suc, List, ◌∷◌, Bool, true, false, nat_le}
 use mathlib.Core.Logic.{inl, inr}
 use Rattle.order_laws.specs.System.{System, Laws}
 
