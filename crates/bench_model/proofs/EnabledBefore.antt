@@ -61,8 +61,7 @@ module _ (M : Model) (L : ModelLaws M) where
   enabled_before w P a b ne ea eb f =
       let x : ℕ = answer M w.inputs w.registers (M.next ea.thread.inner) in
       let u : Unlinked a b ea.thread eb.thread = unlinked a b ea.thread eb.thread f in
-      let here : map.get w.threads b ≡ Some eb.thread = was_there w P a b ne ea x eb.thread eb.runs u (origin M.Inner w.threads a ea.thread (M.next ea.thread.inner) x b eb.thread eb.here) in
-      (
+      let here : map.get w.threads b ≡ Some eb.thread = was_there w P a b ne ea x eb.thread eb.runs u (origin M.Inner w.threads a ea.thread (M.next ea.thread.inner) x b eb.thread eb.here) in (
         record {
           thread = eb.thread;
           here = here;

@@ -67,7 +67,6 @@ module _ (S : Setting) where
   on_from zero w = tt
   on_from (suc n) w = on_by n (on_from n) w (verdict S.limits w) refl
 
-
 -- ---- the first world
 module _ (S : Setting) (L : SettingLaws S) where
   only_root : (q : Path) (t : Thread S.model.Inner) → map.get (first_world S).threads q ≡ Some t → (q ≡ []) × (t ≡ root_thread S.root)

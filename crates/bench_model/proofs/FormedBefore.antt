@@ -46,7 +46,7 @@ module _ (log : List Event) (F : Formed log) where
       (λ h. ⊎_elim (λ f. F.fork_first i j d e a b (fork_is d.kind e.path f))
       (λ g. ⊎_elim
       (λ k. let x = both_of (is_end d.kind) (names_joined e.joined d.path) k in
-          after_end i j d e a b (end_is d.kind x.0) (F.join_after i j d e a b (joined_is e.joined d.path x.1)))
+      after_end i j d e a b (end_is d.kind x.0) (F.join_after i j d e a b (joined_is e.joined d.path x.1)))
       (λ k. after_region i j d e a b (ltb-true d.region e.region k))
       (or_cases (is_end d.kind && names_joined e.joined d.path) (nat_lt d.region e.region) g))
       (or_cases (is_fork_of d.kind e.path) _ h))

@@ -24,7 +24,13 @@ pub enum Passed {
 
 /// The first limit that is passed by so many threads, records and actions at the end of a time step, in this order, or none. The
 /// time steps are passed at the last of them, so that there is always at least one.
-pub fn first_passed(limits: &EndLimits, threads: u32, records: u32, actions: u32, time: u32) -> Option<Passed>
+pub fn first_passed(
+    limits: &EndLimits,
+    threads: u32,
+    records: u32,
+    actions: u32,
+    time: u32,
+) -> Option<Passed>
     ensures { passed_told result ≡ limited (limits_told limits.now) threads records actions time }
 {
     if threads > limits.threads {
