@@ -1,7 +1,7 @@
 -- Conflicts by places: what is said of a new event by the tests is what the definitions say of the whole log.
-use Rattle.std.proofs.Common.{◌≡◌, ◌⊎◌, ⊎_elim, inl, inr, ℕ, zero, suc, ◌+◌, ◌<◌, ◌≤◌, List, [], ◌∷◌, length, Bool, true, false, ◌||◌, Option, Some, None, option_map, is_some, cond, nat_eq, refl, sym, ap, ap₂, subst, ◌∙◌, arith, eq-eqb, ne_eqb, le_refl}
+use Rattle.std.proofs.Common.{◌≡◌, ◌⊎◌, ⊎_elim, inl, inr, ℕ, suc, ◌<◌, ◌≤◌, List, [], ◌∷◌, length, Bool, true, false, ◌||◌, Option, Some, None, option_map, is_some, cond, refl, sym, ap, subst, ◌∙◌, arith, eq-eqb, ne_eqb}
 use Rattle.std.proofs.lemmas.Bool.{or_right, or_cases}
-use Rattle.bench_model.specs.Log.{Event, AtBy, BeforeBy, LeadsTo, NoConflictBy, place, link, clash, leads_to_any, scan, conflicts, or_here, least_scan, least_place, event_at}
+use Rattle.bench_model.specs.Log.{Event, LeadsTo, place, link, clash, leads_to_any, scan, conflicts, or_here, least_scan, least_place, event_at}
 use Rattle.bench_model.specs.Conflict.{HasAt, IsBefore, Conflict, IsFirstPair, IsFree}
 use Rattle.bench_model.specs.Orders.{event_found, named_pair}
 use Rattle.bench_model.proofs.ScanFacts.{place_below, place_new, no_conflict_placed, ConflictAt, LeastIs, least_is}

@@ -1,13 +1,12 @@
 -- A thread that is enabled after an act, to whose next event that act has no link, was enabled before it.
-use Rattle.std.proofs.Common.{◌≡◌, ℕ, suc, List, [], ◌∷◌, ◌++◌, Bool, true, false, Option, Some, None, refl, sym, ap, ap₂, subst, ◌∙◌, arith, inl, inr, ◌⊎◌, ⊎_elim, ◌<◌, ◌≤◌, length, option_map, ◌||◌, ◌&&◌, nat_lt, ltb-false}
+use Rattle.std.proofs.Common.{◌≡◌, ℕ, true, false, Option, Some, None, refl, sym, ap, ap₂, subst, ◌∙◌, inl, inr, ◌⊎◌, ⊎_elim, ◌≤◌, length, option_map, ◌&&◌, nat_lt, ltb-false}
 use Rattle.std.specs.FinMap as map
 use Rattle.std.proofs.lemmas.Bool.{or_parts}
-use Rattle.bench_model.specs.Paths.{Path, is_path, child, parent}
-use Rattle.bench_model.specs.Log.{Event, Kind, link, is_fork_of, is_end, names_joined}
-use Rattle.bench_model.specs.World.{Model, ModelLaws, Move, Thread, Threads, World, Mode, Enabled, IsRunning, Possible, act, act_of, answer, threads_after, wakes, newborn, woken, woken_mode, event_of, kind_of}
-use Rattle.bench_model.specs.World.Move.{poke, peek, expect, fork, join, arrive, joinstep, spend, end}
-use Rattle.bench_model.specs.World.Mode.{running, at_join, at_edges, at_joinstep, spent}
-use Rattle.bench_model.proofs.PathFacts.{is_path_refl, is_path_same, is_path_apart, same_path}
+use Rattle.bench_model.specs.Paths.{Path, is_path, child}
+use Rattle.bench_model.specs.Log.{link, is_fork_of, is_end, names_joined}
+use Rattle.bench_model.specs.World.{Model, ModelLaws, Move, Thread, World, Enabled, IsRunning, Possible, act_of, answer, wakes, newborn, woken_mode, event_of, kind_of}
+use Rattle.bench_model.specs.World.Move.{fork, end}
+use Rattle.bench_model.proofs.PathFacts.{is_path_refl, same_path}
 use Rattle.bench_model.proofs.Origins.{Origin, itself, born, roused, kept, origin}
 use Rattle.bench_model.proofs.StaysPossible.{waker, woken_region}
 use Rattle.bench_model.proofs.WorldExchange.{rests}

@@ -1,22 +1,20 @@
 -- The one-thread order ends within its bound.
-use Rattle.std.proofs.Common.{◌≡◌, ◌⊎◌, ⊎_elim, inl, inr, ℕ, zero, suc, ◌+◌, ◌*◌, ◌-◌, ◌<◌, ◌≤◌, max, List, [], ◌∷◌, ◌++◌, length, Bool, true, false, cond, not, ◌&&◌, Option, Some, None, is_some, nat_le, nat_lt, refl, sym, ap, ap₂, subst, ◌∙◌, arith, leb-false, ltb-true, le_refl, le_trans}
+use Rattle.std.proofs.Common.{◌≡◌, ◌⊎◌, inl, inr, ℕ, zero, suc, ◌+◌, ◌*◌, ◌-◌, ◌<◌, ◌≤◌, max, List, [], ◌∷◌, ◌++◌, length, Bool, true, false, cond, Option, Some, None, is_some, nat_le, nat_lt, refl, sym, ap, subst, ◌∙◌, arith, leb-false, le_trans}
 use Rattle.std.proofs.Math.Nat.{le-max_left, le-max_right}
 use Rattle.std.specs.List.{list_any}
 use Rattle.std.specs.FinMap as map
-use Rattle.std.specs.FinMap.{is_sorted}
-use Rattle.order_laws.specs.System.{after}
-use Rattle.order_laws.specs.Runs.{Run, going, settled, conflicted, bounded, runs, Fine}
-use Rattle.order_laws.specs.EveryOrder.{chosen, IsOver}
+use Rattle.order_laws.specs.Runs.{going, runs}
+use Rattle.order_laws.specs.EveryOrder.{IsOver}
 use Rattle.order_laws.proofs.Ends.{GoesOn, Within, ends, chosen_length}
 use Rattle.order_laws.proofs.Theorem.{chosen_permitted}
 use Rattle.bench_model.specs.Paths.{Path, path_cmp, is_path, child}
-use Rattle.bench_model.specs.World.{Thread, World, Enabled, IsRunning, Possible, act}
+use Rattle.bench_model.specs.World.{Thread, World, Enabled, Possible, act}
 use Rattle.bench_model.specs.World.Mode.{running, at_join}
-use Rattle.bench_model.specs.Settle.{Setting, SettingLaws, Finish, Ending, Limits, is_running, quiet, first_spent, or_spent, ended, limited, verdict, next_step, settle_on, settle_by, settle_from, settle, steps, fails_now}
-use Rattle.bench_model.specs.Orders.{Permits, RunOf, start, replay, first_order, first_world, root_thread, act_bound, least_of_run}
+use Rattle.bench_model.specs.Settle.{Setting, SettingLaws, Finish, Ending, Limits, quiet, first_spent, or_spent, ended, limited, verdict, next_step, settle_on, settle_by, settle_from, settle, steps, fails_now}
+use Rattle.bench_model.specs.Orders.{Permits, start, replay, first_order, first_world, root_thread, act_bound, least_of_run}
 use Rattle.bench_model.proofs.PathFacts.{path_order, is_path_refl, is_path_same, below_itself, child_is}
 use Rattle.bench_model.proofs.SettleFacts.{size_of, time_of, not_quiet}
-use Rattle.bench_model.proofs.LeastFacts.{least_run_enabled, least_run_all, least_awake}
+use Rattle.bench_model.proofs.LeastFacts.{least_run_enabled, least_awake}
 
 -- ---- a time step that goes on is below the limit
 limited_none : (l : Limits) (t r a n : ℕ) → limited l t r a n ≡ None → suc n < l.time_steps

@@ -1,9 +1,9 @@
 -- On formed logs each link leads from an earlier event to a later one, so "before" is the same with links in any direction.
-use Rattle.std.proofs.Common.{◌≡◌, ◌⊎◌, ⊎_elim, inl, inr, ℕ, suc, ◌<◌, ◌≤◌, List, [], ◌∷◌, length, Bool, true, false, ◌&&◌, ◌||◌, nat_lt, Option, Some, None, refl, sym, ap, subst, ◌∙◌, arith, ltb-true, ◌↔◌}
+use Rattle.std.proofs.Common.{◌≡◌, ◌⊎◌, ⊎_elim, inl, inr, ℕ, ◌<◌, ◌≤◌, List, [], ◌∷◌, length, Bool, true, false, ◌&&◌, nat_lt, Option, Some, None, refl, sym, ap, subst, arith, ltb-true, ◌↔◌}
 use Rattle.std.proofs.lemmas.Bool.{or_cases}
 use Rattle.bench_model.specs.Paths.{Path, is_path}
 use Rattle.bench_model.specs.Log.{Kind, Event, link, is_fork_of, is_end, names_joined}
-use Rattle.bench_model.specs.Log.Kind.{pokes, peeks, expects, forks, joins, arrives, joinsteps, spends, ends}
+use Rattle.bench_model.specs.Log.Kind.{forks, ends}
 use Rattle.bench_model.specs.Conflict.{HasAt, IsBefore}
 use Rattle.bench_model.specs.Formed.{HasEnd, Formed, LinkAnywhere, Chain, one, more, IsBeforeAnywhere}
 use Rattle.bench_model.proofs.PathFacts.{is_path_same}

@@ -1,12 +1,12 @@
 -- A formed log stays formed with one event more that fits it.
-use Rattle.std.proofs.Common.{◌≡◌, ◌⊎◌, ⊎_elim, inl, inr, ℕ, suc, ◌+◌, ◌<◌, ◌≤◌, List, [], ◌∷◌, ◌++◌, length, Option, Some, None, refl, sym, ap, subst, ◌∙◌, arith, le_refl}
+use Rattle.std.proofs.Common.{◌≡◌, inl, inr, ℕ, ◌<◌, ◌≤◌, List, [], ◌∷◌, ◌++◌, length, Option, Some, refl, sym, ap, subst, ◌∙◌, arith}
 use Rattle.bench_model.specs.Paths.{Path, child}
 use Rattle.bench_model.specs.Log.{Kind, Event}
 use Rattle.bench_model.specs.Log.Kind.{forks, ends}
 use Rattle.bench_model.specs.Conflict.{HasAt}
 use Rattle.bench_model.specs.Formed.{HasFork, HasEnd, Formed}
-use Rattle.bench_model.proofs.PathFacts.{below_child, below_itself, not_own_child}
-use Rattle.bench_model.proofs.ScanFacts.{place_below, place_new}
+use Rattle.bench_model.proofs.PathFacts.{below_child, not_own_child}
+use Rattle.bench_model.proofs.ScanFacts.{place_below}
 
 -- the end of the thread c stands in the log
 pub record Ended (log : List Event) (c : Path) : Type 0 where

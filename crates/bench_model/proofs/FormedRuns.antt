@@ -1,10 +1,10 @@
 -- The log of each permitted order is formed, through all its time steps.
-use Rattle.std.proofs.Common.{◌≡◌, ◌⊎◌, inl, inr, ℕ, suc, List, [], ◌∷◌, Bool, true, false, Option, Some, None, refl, sym, ap, subst, nat_le, length}
+use Rattle.std.proofs.Common.{◌≡◌, ◌⊎◌, inl, inr, ℕ, suc, List, [], ◌∷◌, Bool, true, false, refl, subst, nat_le, length}
 use Rattle.std.specs.FinMap as map
 use Rattle.order_laws.specs.System.{Permitted, after}
-use Rattle.order_laws.specs.Runs.{Run, going, settled, conflicted, bounded, RunPossible, runs, run_act, judge, look, settle_to}
+use Rattle.order_laws.specs.Runs.{going, settled, conflicted, bounded, RunPossible, runs, run_act, judge, look, settle_to}
 use Rattle.bench_model.specs.Paths.{Path}
-use Rattle.bench_model.specs.World.{World, Possible, act}
+use Rattle.bench_model.specs.World.{World, act}
 use Rattle.bench_model.specs.Settle.{Setting, SettingLaws, Finish, steps, settle, quiet, conflict_of}
 use Rattle.bench_model.specs.Orders.{RunOf, start, replay, Permits, first_world, LogsFormed}
 use Rattle.bench_model.proofs.LogFormed.{Tied, tied_empty, tied_act}

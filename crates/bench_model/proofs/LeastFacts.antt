@@ -1,20 +1,20 @@
 -- The least enabled path is enabled, and is there where some path is enabled.
-use Rattle.std.proofs.Common.{◌≡◌, ◌≢◌, ℕ, zero, suc, ◌+◌, List, [], ◌∷◌, ◌++◌, map, Bool, true, false, not, Option, Some, None, refl, sym, ap, ap₂, subst, ◌∙◌, arith, inl, inr, ◌⊎◌, ⊎_elim, ◌<◌, ◌≤◌, length, cond, ◌||◌, ◌&&◌, is_some, nat_lt, T, ltb-false, ltb-true, lt-ltb}
+use Rattle.std.proofs.Common.{◌≡◌, ℕ, zero, suc, List, [], ◌∷◌, Bool, true, false, not, Option, Some, None, refl, sym, ap, ap₂, subst, ◌∙◌, arith, ⊎_elim, ◌<◌, ◌≤◌, cond, ◌&&◌, is_some, nat_lt, T, ltb-false, ltb-true}
 use Rattle.std.specs.List.{list_any}
 use Rattle.std.specs.FinMap as map
-use Rattle.std.specs.FinMap.{FinMap, find, is_sorted}
+use Rattle.std.specs.FinMap.{find, is_sorted}
 use Rattle.std.specs.FinMap.Entries.{below_all}
 use Rattle.std.specs.Ordering.{eq_by_cmp, is_lt, is_eq}
 use Rattle.std.specs.declared.cmp.Ordering.{Ordering}
 use Rattle.std.specs.declared.cmp.Ordering.TheVariants.{Less, Equal, Greater}
-use Rattle.std.proofs.lemmas.Bool.{or_left, or_right, or_cases}
+use Rattle.std.proofs.lemmas.Bool.{or_cases}
 use Rattle.order_laws.specs.System.{Quiet}
 use Rattle.order_laws.specs.Runs.{Run, going, settled, conflicted, bounded, runs, RunEnabled}
 use Rattle.bench_model.specs.Paths.{Path, path_cmp, is_path}
-use Rattle.bench_model.specs.World.{Model, Thread, Threads, World, Mode, Enabled, IsRunning}
+use Rattle.bench_model.specs.World.{Thread, World, Mode, Enabled, IsRunning}
 use Rattle.bench_model.specs.World.Mode.{running, at_join, at_edges, at_joinstep, spent}
 use Rattle.bench_model.specs.Settle.{is_running, quiet, Setting, Finish, steps}
-use Rattle.bench_model.specs.Orders.{is_enabled, first_enabled, least, least_of_run}
+use Rattle.bench_model.specs.Orders.{is_enabled, first_enabled, least_of_run}
 use Rattle.bench_model.proofs.PathFacts.{is_path_refl, is_path_same}
 use Rattle.bench_model.proofs.SettleFacts.{any_found}
 

@@ -1,24 +1,24 @@
 -- Worlds whose threads are a list, for computing: they go as the worlds of a bench do, and what they give can be read off.
-use Rattle.std.proofs.Common.{◌≡◌, ◌⊎◌, inl, inr, ℕ, zero, suc, ◌+◌, ◌-◌, List, [], ◌∷◌, ◌++◌, map, length, reverse, Bool, true, false, cond, not, ◌&&◌, ◌||◌, Option, Some, None, option_map, is_some, nat_le, nat_lt, refl, sym, ap, ap₂, subst, ◌∙◌, T, arith}
+use Rattle.std.proofs.Common.{◌≡◌, ◌⊎◌, inl, inr, ℕ, zero, suc, ◌-◌, List, [], ◌∷◌, ◌++◌, map, length, reverse, Bool, true, false, cond, not, ◌&&◌, Option, Some, None, option_map, is_some, nat_le, nat_lt, refl, sym, ap, ap₂, subst, ◌∙◌, T, arith}
 use Rattle.std.specs.List.{list_any}
 use Rattle.std.specs.FinMap as map
-use Rattle.std.specs.FinMap.{FinMap, find, put, is_sorted}
+use Rattle.std.specs.FinMap.{FinMap, find, put}
 use Rattle.std.specs.FinMap.Entries.{where_key, is_sorted-where_key, find-where_key}
 use Rattle.std.specs.Ordering.{eq_by_cmp}
-use Rattle.order_laws.specs.System.{System, after}
+use Rattle.order_laws.specs.System.{after}
 use Rattle.order_laws.specs.Runs.{Steps, Run, going, settled, conflicted, bounded, runs}
 use Rattle.order_laws.specs.EveryOrder.{chosen}
 use Rattle.order_laws.specs.Mirror.{Mirrors, map_run, map_settle}
 use Rattle.order_laws.proofs.MirrorFacts.{after_mirrors, chosen_mirrors}
-use Rattle.bench_model.specs.Paths.{Path, path_cmp, is_path, child}
+use Rattle.bench_model.specs.Paths.{Path, path_cmp, child}
 use Rattle.bench_model.specs.Log.{Event, conflicts}
 use Rattle.bench_model.specs.Sorting.{record_le, sorted}
-use Rattle.bench_model.specs.World.{Model, Move, Thread, Threads, World, Mode, Record, answer, self_after, newborn, wakes, woken, write, wake, birth, threads_after, is_there, inputs_after, recorded, event_of, act, act_of, worlds}
+use Rattle.bench_model.specs.World.{Model, Move, Thread, Threads, World, Mode, Record, answer, self_after, newborn, wakes, woken, write, wake, birth, threads_after, is_there, inputs_after, recorded, event_of, act_of}
 use Rattle.bench_model.specs.World.Move.{join}
-use Rattle.bench_model.specs.World.Mode.{running, at_edges, at_joinstep}
-use Rattle.bench_model.specs.Settle.{Setting, Finish, Ending, is_running, fails_now, first_spent, or_spent, ended, limited, verdict, released, tick_mode, tick, map_values, next_step, finish, settle_on, settle_by, settle_from, settle, quiet, conflict_of, steps}
+use Rattle.bench_model.specs.World.Mode.{at_edges, at_joinstep}
+use Rattle.bench_model.specs.Settle.{Setting, Finish, Ending, is_running, fails_now, first_spent, or_spent, ended, limited, verdict, released, tick_mode, tick, next_step, settle_on, settle_by, settle_from, quiet, conflict_of, steps}
 use Rattle.bench_model.specs.Settle.Ending.{failed, time_limit}
-use Rattle.bench_model.specs.Orders.{Result, Outcome, RunOf, root_thread, first_world, start, replay, is_enabled, first_enabled, least, least_of_run, first_order, act_bound, run_of, named_pair, conflict, step_limit, settles}
+use Rattle.bench_model.specs.Orders.{Result, RunOf, root_thread, start, replay, is_enabled, first_enabled, least_of_run, first_order, act_bound, run_of, named_pair, conflict, step_limit, settles}
 use Rattle.bench_model.proofs.PathFacts.{path_order, path_exact}
 use Rattle.bench_model.proofs.SettleFacts.{sorted_changed}
 

@@ -1,8 +1,8 @@
 -- Facts on logs.
-use Rattle.std.proofs.Common.{◌≡◌, ◌≢◌, ℕ, suc, ◌+◌, List, [], ◌∷◌, ◌++◌, Bool, true, false, Option, Some, None, refl, sym, ap, ap₂, subst, ◌∙◌, arith, inl, inr, ◌⊎◌, ⊎_elim, ◌<◌, ◌≤◌, ◌↔◌, length, cond}
-use Rattle.bench_model.specs.Paths.{Path, is_path}
-use Rattle.bench_model.specs.Log.{Kind, Event, count, Name, name, At, link, Before, Leads, clash, NoConflict, LogAlike}
-use Rattle.bench_model.proofs.PathFacts.{is_path_refl, is_path_sym, is_path_same, is_path_apart}
+use Rattle.std.proofs.Common.{◌≡◌, ℕ, suc, List, [], ◌∷◌, Bool, true, false, refl, sym, ap, subst, ◌∙◌, arith, inl, inr, ⊎_elim, ◌<◌, cond}
+use Rattle.bench_model.specs.Paths.{is_path}
+use Rattle.bench_model.specs.Log.{Event, count, Name, name, At, link, Before, Leads, clash, NoConflict, LogAlike}
+use Rattle.bench_model.proofs.PathFacts.{is_path_refl, is_path_apart}
 
 count_rises : (b : Bool) (n k : ℕ) → k < n → k < cond b (suc n) n
 count_rises true n k h = omega arith

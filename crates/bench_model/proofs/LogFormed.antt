@@ -1,19 +1,18 @@
 -- The log of each permitted order is formed: what ties the log of a world to its threads.
-use Rattle.std.proofs.Common.{◌≡◌, ◌⊎◌, ⊎_elim, inl, inr, ℕ, suc, ◌+◌, ◌<◌, ◌≤◌, List, [], ◌∷◌, ◌++◌, length, length-append, Bool, true, false, cond, Option, Some, None, option_map, is_some, refl, sym, ap, ap₂, subst, ◌∙◌, arith, le_refl, slice_index}
+use Rattle.std.proofs.Common.{◌≡◌, ◌⊎◌, ⊎_elim, inl, inr, ℕ, ◌<◌, ◌≤◌, [], ◌∷◌, ◌++◌, length, length-append, Bool, true, false, cond, Option, Some, None, option_map, is_some, refl, sym, ap, subst, ◌∙◌, arith, le_refl}
 use Rattle.std.specs.FinMap as map
 use Rattle.bench_model.specs.Paths.{Path, is_path, child}
-use Rattle.bench_model.specs.Log.{Kind, Event}
-use Rattle.bench_model.specs.Log.Kind.{pokes, peeks, expects, forks, joins, arrives, joinsteps, spends, ends}
+use Rattle.bench_model.specs.Log.{Event}
+use Rattle.bench_model.specs.Log.Kind.{forks, ends}
 use Rattle.bench_model.specs.Conflict.{HasAt}
 use Rattle.bench_model.specs.Formed.{HasFork, Formed}
-use Rattle.bench_model.specs.World.{Model, ModelLaws, Move, Thread, World, Enabled, IsRunning, Possible, FitsMove, act, act_of, answer, threads_after, wakes, newborn, self_after, is_there, woken, event_of, kind_of}
+use Rattle.bench_model.specs.World.{Model, ModelLaws, Move, Thread, World, Enabled, IsRunning, Possible, act, act_of, answer, wakes, newborn, self_after, is_there, woken, event_of, kind_of}
 use Rattle.bench_model.specs.World.Move.{poke, peek, expect, fork, join, arrive, joinstep, spend, end}
-use Rattle.bench_model.specs.World.Mode.{running, at_join}
-use Rattle.bench_model.proofs.PathFacts.{is_path_refl, is_path_apart, is_path_same, same_path, below_itself, below_child, not_own_child, child_below, child_is, child_same, BelowChild, first, deeper, below_a_child}
+use Rattle.bench_model.proofs.PathFacts.{is_path_refl, is_path_apart, same_path, below_itself, below_child, not_own_child, child_below, child_is, child_same, BelowChild, first, deeper, below_a_child}
 use Rattle.bench_model.proofs.ThreadsFacts.{born_at, woken_at, get_after}
-use Rattle.bench_model.proofs.Origins.{Origin, origin, self_region}
+use Rattle.bench_model.proofs.Origins.{origin, self_region}
 use Rattle.bench_model.proofs.StaysPossible.{no_lesser}
-use Rattle.bench_model.proofs.PossibleActs.{Past, own, new, old, past_of, Birth, birth_of, Grows, self_grows, Like, possible_act}
+use Rattle.bench_model.proofs.PossibleActs.{Past, own, new, old, past_of, birth_of, self_grows}
 use Rattle.bench_model.proofs.FormedFacts.{Ended, Fits, formed_more, formed_empty, more_fork, same_kind, same_join}
 
 -- the event speaks of the path c: it is its thread's, or what it forks, or what it names as joined

@@ -1,11 +1,10 @@
 -- Where each thread after an act comes from.
-use Rattle.std.proofs.Common.{◌≡◌, ◌≢◌, ℕ, suc, ◌+◌, List, [], ◌∷◌, ◌++◌, Bool, true, false, Option, Some, None, refl, sym, ap, ap₂, subst, ◌∙◌, arith, inl, inr, ◌⊎◌, ⊎_elim, ◌<◌, ◌≤◌, ◌↔◌, length, length-append, cond, option_map, is_some}
+use Rattle.std.proofs.Common.{◌≡◌, ℕ, Bool, true, false, Option, Some, None, refl, sym, ap, ap₂, subst, ◌∙◌, cond, option_map}
 use Rattle.std.specs.FinMap as map
-use Rattle.bench_model.specs.Paths.{Path, path_cmp, is_path, child, parent}
-use Rattle.bench_model.specs.World.{Model, Move, Thread, Threads, World, Mode, wakes, newborn, self_after, is_there, threads_after, woken, woken_mode}
+use Rattle.bench_model.specs.Paths.{Path, is_path}
+use Rattle.bench_model.specs.World.{Move, Thread, Threads, wakes, newborn, self_after, is_there, threads_after, woken}
 use Rattle.bench_model.specs.World.Move.{poke, peek, expect, fork, join, arrive, joinstep, spend, end}
-use Rattle.bench_model.specs.World.Mode.{running, at_join, at_edges, at_joinstep, spent}
-use Rattle.bench_model.proofs.PathFacts.{is_path_refl, is_path_sym, is_path_same, is_path_apart, same_path}
+use Rattle.bench_model.proofs.PathFacts.{is_path_refl, is_path_same}
 use Rattle.bench_model.proofs.ThreadsFacts.{born_at, woken_at, get_after}
 
 -- the thread u that is at q after the act of a

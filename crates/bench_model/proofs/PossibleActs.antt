@@ -1,12 +1,12 @@
 -- What is possible stays so.
-use Rattle.std.proofs.Common.{◌≡◌, ◌≢◌, ℕ, suc, ◌+◌, List, [], ◌∷◌, ◌++◌, Bool, true, false, Option, Some, None, refl, sym, ap, ap₂, subst, ◌∙◌, arith, inl, inr, ◌⊎◌, ⊎_elim, ◌<◌, ◌≤◌, ◌↔◌, length, length-append, cond, option_map, is_some, le_antisymm, slice_index, nat_eq, eqb-true, le_of_eq, le_refl}
+use Rattle.std.proofs.Common.{◌≡◌, ℕ, [], ◌∷◌, ◌++◌, Bool, true, false, Option, Some, None, refl, sym, ap, subst, ◌∙◌, arith, inl, inr, ◌⊎◌, ⊎_elim, ◌<◌, ◌≤◌, length, length-append, cond, is_some, slice_index, nat_eq, le_of_eq}
 use Rattle.std.specs.FinMap as map
 use Rattle.std.proofs.lemmas.List.{get_or_append_left, get_or_push}
-use Rattle.bench_model.specs.Paths.{Path, path_cmp, is_path, child, parent}
-use Rattle.bench_model.specs.World.{Model, ModelLaws, Move, Thread, Threads, World, Mode, Enabled, IsRunning, Possible, FitsMove, act, act_of, answer, threads_after, wakes, newborn, self_after, is_there, woken, woken_mode, went}
+use Rattle.bench_model.specs.Paths.{Path, child}
+use Rattle.bench_model.specs.World.{Model, ModelLaws, Move, Thread, Threads, World, Mode, Possible, FitsMove, act_of, answer, threads_after, wakes, newborn, self_after, is_there, woken_mode}
 use Rattle.bench_model.specs.World.Move.{poke, peek, expect, fork, join, arrive, joinstep, spend, end}
 use Rattle.bench_model.specs.World.Mode.{running, at_join, at_edges, at_joinstep, spent}
-use Rattle.bench_model.proofs.PathFacts.{is_path_refl, is_path_same, is_path_apart, same_path, child_of_parent, below_itself, below_child, not_own_child, child_below, child_is, child_same, BelowChild, first, deeper, below_a_child}
+use Rattle.bench_model.proofs.PathFacts.{below_itself, below_child, not_own_child, child_below, child_is, child_same, BelowChild, first, deeper, below_a_child}
 use Rattle.bench_model.proofs.Origins.{Origin, itself, born, roused, kept, origin, self_region}
 use Rattle.bench_model.proofs.StaysPossible.{waker, woken_region}
 

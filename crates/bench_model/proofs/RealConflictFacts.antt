@@ -1,12 +1,12 @@
 -- While an order goes on, no two events of its log conflict; where it meets a conflict, that is the newest event's.
-use Rattle.std.proofs.Common.{◌≡◌, ℕ, zero, suc, List, [], ◌∷◌, Bool, true, false, Option, Some, None, refl, sym, ap, subst, ◌∙◌, nat_le, ◌⊎◌, inl, inr}
+use Rattle.std.proofs.Common.{◌≡◌, ℕ, zero, suc, List, [], ◌∷◌, Bool, true, false, Option, Some, None, refl, sym, subst, ◌⊎◌, inl, inr}
 use Rattle.std.specs.FinMap as map
-use Rattle.order_laws.specs.System.{after, Permitted}
+use Rattle.order_laws.specs.System.{after}
 use Rattle.order_laws.specs.Runs.{Run, going, settled, conflicted, bounded, runs, run_act, judge, look, settle_to}
 use Rattle.bench_model.specs.Paths.{Path}
 use Rattle.bench_model.specs.Log.{Event, conflicts}
-use Rattle.bench_model.specs.World.{Model, Thread, World, act, act_of}
-use Rattle.bench_model.specs.Settle.{Setting, Finish, Ending, steps, settle_from, settle_by, settle_on, settle, next_step, quiet, verdict, conflict_of}
+use Rattle.bench_model.specs.World.{Thread, World, act_of}
+use Rattle.bench_model.specs.Settle.{Setting, Finish, Ending, steps, settle_from, settle_by, settle_on, next_step, quiet, verdict, conflict_of}
 use Rattle.bench_model.proofs.ConflictFacts.{AllFree}
 
 -- the newest event conflicts with an earlier one, and no other event does

@@ -1,7 +1,7 @@
 -- The test for a conflict is right, whatever names events have.
-use Rattle.std.proofs.Common.{◌≡◌, ◌≢◌, ℕ, suc, ◌+◌, List, [], ◌∷◌, ◌++◌, Bool, true, false, Option, Some, None, refl, sym, ap, ap₂, subst, ◌∙◌, arith, inl, inr, ◌⊎◌, ⊎_elim, ◌<◌, ◌≤◌, ◌↔◌, length, cond, ◌||◌}
+use Rattle.std.proofs.Common.{◌≡◌, ℕ, List, [], ◌∷◌, Bool, true, false, Option, Some, None, refl, sym, ap, subst, ◌∙◌, arith, inl, inr, ◌⊎◌, ⊎_elim, ◌<◌, length, ◌||◌}
 use Rattle.std.proofs.lemmas.Bool.{or_parts, or_from, or_left, or_right, or_cases}
-use Rattle.bench_model.specs.Log.{Event, Label, Name, name, AtBy, LeadsBy, BeforeBy, LeadsTo, NoConflictBy, NoConflict, place, link, clash, leads_to_any, scan, conflicts, or_here, least_scan}
+use Rattle.bench_model.specs.Log.{Event, Label, Name, name, AtBy, BeforeBy, NoConflictBy, NoConflict, place, link, clash, leads_to_any, scan, conflicts, or_here, least_scan}
 use Rattle.bench_model.proofs.LogFacts.{name_new}
 
 module _ (B : Type 0) (label : Label B) (label_new : (log : List Event) (e d : Event) → AtBy label log (label log e) d → ⊥) where

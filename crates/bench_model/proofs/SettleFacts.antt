@@ -1,5 +1,5 @@
 -- Settling: alike worlds settle alike, and what is possible stays so. Runs of a bench meet the laws.
-use Rattle.std.proofs.Common.{◌≡◌, ◌≢◌, ℕ, zero, suc, ◌+◌, ◌-◌, List, [], ◌∷◌, ◌++◌, map, Bool, true, false, not, Option, Some, None, refl, sym, ap, ap₂, subst, ◌∙◌, arith, inl, inr, ◌⊎◌, ⊎_elim, ◌<◌, ◌≤◌, ◌↔◌, length, cond, ◌||◌, ◌&&◌, is_some, nat_eq, nat_le, option_map, IsPermutation, T, slice_index}
+use Rattle.std.proofs.Common.{◌≡◌, ℕ, zero, suc, ◌-◌, List, [], ◌∷◌, ◌++◌, map, Bool, true, false, not, Option, Some, None, refl, sym, ap, ap₂, subst, ◌∙◌, arith, ◌⊎◌, ◌<◌, ◌≤◌, length, cond, ◌||◌, ◌&&◌, is_some, nat_le, option_map, T, slice_index}
 use Rattle.std.specs.List.{list_any}
 use Rattle.std.specs.FinMap as map
 use Rattle.std.specs.FinMap.{FinMap, find, is_sorted}
@@ -8,13 +8,11 @@ use Rattle.std.specs.Ordering.{eq_by_cmp, is_lt}
 use Rattle.std.specs.declared.cmp.Ordering.{Ordering}
 use Rattle.std.proofs.lemmas.Bool.{or_left, or_right}
 use Rattle.std.proofs.lemmas.List.Sorted.{IsPermutation-refl, IsPermutation-sym, IsPermutation-trans, list_any-IsPermutation, length_permutation}
-use Rattle.order_laws.specs.System.{System, Laws}
-use Rattle.order_laws.specs.Runs.{Steps, StepLaws, SettleAlike, SettlePossible}
-use Rattle.bench_model.specs.Paths.{Path, path_cmp, is_path, child, parent}
-use Rattle.bench_model.specs.Log.{Event, conflicts, NoConflict}
-use Rattle.bench_model.specs.World.{Model, ModelLaws, Move, Thread, Threads, World, Mode, Record, Enabled, IsRunning, CleanAct, WorldAlike, Possible, worlds, event_of, act, act_of}
+use Rattle.order_laws.specs.Runs.{StepLaws, SettleAlike, SettlePossible}
+use Rattle.bench_model.specs.Paths.{Path, path_cmp, is_path, child}
+use Rattle.bench_model.specs.World.{ModelLaws, Thread, Threads, World, Mode, Enabled, CleanAct, WorldAlike, Possible, event_of, act, act_of}
 use Rattle.bench_model.specs.World.Mode.{running, at_join, at_edges, at_joinstep, spent}
-use Rattle.bench_model.specs.Settle.{map_values, Limits, Ending, Finish, Setting, fails_now, is_running, quiet, first_spent, limited, ended, or_spent, verdict, released, tick_mode, tick, next_step, finish, settle_on, settle_by, settle_from, settle, FinishAlike, conflict_of, steps}
+use Rattle.bench_model.specs.Settle.{map_values, Ending, Finish, Setting, fails_now, is_running, quiet, first_spent, limited, ended, or_spent, verdict, released, tick_mode, tick, next_step, settle_on, settle_by, settle_from, FinishAlike, conflict_of, steps}
 use Rattle.bench_model.proofs.LogFacts.{log_refl}
 use Rattle.bench_model.proofs.PathFacts.{is_path_same}
 use Rattle.bench_model.proofs.ScanFacts.{no_conflict_named, conflicts_named}

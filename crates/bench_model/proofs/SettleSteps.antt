@@ -1,7 +1,7 @@
 -- Settling, one time step at a time: the count of time steps is never used up.
-use Rattle.std.proofs.Common.{◌≡◌, ◌⊎◌, inl, inr, ℕ, zero, suc, ◌+◌, ◌<◌, ◌≤◌, Bool, true, false, Option, Some, None, refl, sym, ap, subst, ◌∙◌, arith}
+use Rattle.std.proofs.Common.{◌≡◌, ℕ, zero, suc, ◌+◌, ◌<◌, ◌≤◌, Bool, true, false, Option, Some, None, refl, arith}
 use Rattle.bench_model.specs.World.{World}
-use Rattle.bench_model.specs.Settle.{Setting, Finish, Ending, verdict, next_step, quiet, settle_on, settle_by, settle_from, settle}
+use Rattle.bench_model.specs.Settle.{Setting, Ending, verdict, next_step, quiet, settle_on, settle_by, settle_from, settle}
 use Rattle.bench_model.proofs.FirstOrder.{verdict_none}
 
 module _ (S : Setting) where

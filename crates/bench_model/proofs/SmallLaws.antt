@@ -1,5 +1,5 @@
 -- The small tests and circuits meet the laws of a setting.
-use Rattle.std.proofs.Common.{◌≡◌, ℕ, ◌+◌, List, [], ◌∷◌, Bool, true, false, refl, sym, ap, ap₂, slice_index, slice_set, slice_index_or, nat_eq, get_or-set_other, ◌||◌}
+use Rattle.std.proofs.Common.{◌≡◌, ℕ, ◌+◌, List, [], ◌∷◌, false, refl, sym, ap, ap₂, slice_set, nat_eq, get_or-set_other}
 use Rattle.std.specs.List.{list_any}
 use Rattle.std.proofs.lemmas.Bool.{or_parts, eqb-false}
 use Rattle.bench_model.specs.World.{ModelLaws, FitsMove}

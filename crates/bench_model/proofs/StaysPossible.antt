@@ -1,13 +1,13 @@
 -- An enabled thread stays enabled, and what is possible stays so.
-use Rattle.std.proofs.Common.{◌≡◌, ◌≢◌, ℕ, suc, ◌+◌, List, [], ◌∷◌, ◌++◌, Bool, true, false, Option, Some, None, refl, sym, ap, ap₂, subst, ◌∙◌, arith, inl, inr, ◌⊎◌, ⊎_elim, ◌<◌, ◌≤◌, ◌↔◌, length, cond, option_map, is_some, le_antisymm, slice_index, nat_eq, eqb-true, le_of_eq}
+use Rattle.std.proofs.Common.{◌≡◌, ℕ, List, Bool, true, false, Option, Some, None, refl, sym, ap, subst, ◌∙◌, arith, inl, inr, ◌⊎◌, ⊎_elim, ◌≤◌, cond, slice_index, nat_eq, eqb-true}
 use Rattle.std.specs.FinMap as map
-use Rattle.bench_model.specs.Paths.{Path, path_cmp, is_path, child, parent}
-use Rattle.bench_model.specs.World.{Model, ModelLaws, Move, Thread, Threads, World, Mode, Enabled, IsRunning, Possible, FitsMove, act, act_of, answer, threads_after, wakes, newborn, self_after, is_there, woken, woken_mode}
-use Rattle.bench_model.specs.World.Move.{poke, peek, expect, fork, join, arrive, joinstep, spend, end}
+use Rattle.bench_model.specs.Paths.{Path, child}
+use Rattle.bench_model.specs.World.{Model, ModelLaws, Move, Thread, World, Mode, Enabled, IsRunning, Possible, FitsMove, act_of, answer, wakes, newborn, is_there, woken_mode}
+use Rattle.bench_model.specs.World.Move.{fork, end}
 use Rattle.bench_model.specs.World.Mode.{running, at_join, at_edges, at_joinstep, spent}
-use Rattle.bench_model.proofs.PathFacts.{is_path_refl, is_path_same, is_path_apart, same_path, child_of_parent}
+use Rattle.bench_model.proofs.PathFacts.{child_of_parent}
 use Rattle.bench_model.proofs.Origins.{Origin, itself, born, roused, kept, origin, self_region}
-use Rattle.bench_model.proofs.WorldExchange.{rests, not_born}
+use Rattle.bench_model.proofs.WorldExchange.{rests}
 
 module _ (M : Model) (L : ModelLaws M) where
   -- a child is born into no lesser region than its parent's

@@ -1,7 +1,6 @@
 -- The theorem on every order, at any bench: what crates above cite.
-use Rattle.std.proofs.Common.{◌≡◌, ◌⊎◌, inl, inr, ℕ, List, [], ◌∷◌, ◌++◌, length, reverse, Bool, true, false, Option, Some, None, option_map, refl, sym, ap, ap₂, subst, ◌∙◌}
-use Rattle.order_laws.specs.System.{after, Permitted}
-use Rattle.order_laws.specs.Runs.{Run, going, settled, conflicted, bounded, runs, Fine, RunAlike, RunPossible}
+use Rattle.std.proofs.Common.{◌≡◌, ℕ, List, [], ◌∷◌, length, reverse, Some, option_map, refl, sym, ap, subst, ◌∙◌}
+use Rattle.order_laws.specs.Runs.{going, settled, conflicted, bounded, runs, Fine, RunAlike, RunPossible}
 use Rattle.order_laws.specs.EveryOrder.{Settled, IsOver, Follows}
 use Rattle.order_laws.proofs.RunLaws.{run_laws}
 use Rattle.order_laws.proofs.EveryOrder.{possible_after}
@@ -10,13 +9,13 @@ use Rattle.bench_model.specs.Paths.{Path}
 use Rattle.bench_model.specs.Log.{Event}
 use Rattle.bench_model.specs.Conflict.{HasAt, IsFirstPair}
 use Rattle.bench_model.specs.Sorting.{record_le, sorted}
-use Rattle.bench_model.specs.World.{World, Record, Possible}
-use Rattle.bench_model.specs.Settle.{Setting, SettingLaws, Finish, Ending, FinishAlike, steps}
-use Rattle.bench_model.specs.Orders.{RunOf, start, replay, Permits, Settles, first_order, Result, Outcome, conflict, settles, run_of, named_pair, world_result, FollowsOrder, EveryOrder, AnyCleanOrder, FirstOrderEnds, RealConflict, RealConflicts}
+use Rattle.bench_model.specs.World.{World, Possible}
+use Rattle.bench_model.specs.Settle.{Setting, SettingLaws, Finish, FinishAlike, steps}
+use Rattle.bench_model.specs.Orders.{RunOf, start, replay, Permits, Settles, first_order, Result, conflict, settles, run_of, named_pair, world_result, FollowsOrder, EveryOrder, AnyCleanOrder, FirstOrderEnds, RealConflict, RealConflicts}
 use Rattle.bench_model.proofs.SettleFacts.{step_laws}
 use Rattle.bench_model.proofs.SortingFacts.{sorted_permutation}
 use Rattle.bench_model.proofs.RecordOrder.{record_order}
-use Rattle.bench_model.proofs.ConflictFacts.{AllFree, free_of, Named, named}
+use Rattle.bench_model.proofs.ConflictFacts.{free_of, Named, named}
 use Rattle.bench_model.proofs.RealConflictFacts.{IsFirstConflict, IsReal, real_after}
 use Rattle.bench_model.proofs.FirstOrder.{first_possible, first_permitted, first_over, first_short}
 

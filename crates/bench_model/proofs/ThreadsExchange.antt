@@ -1,12 +1,12 @@
 -- The threads after two acts, in either order.
-use Rattle.std.proofs.Common.{◌≡◌, ◌≢◌, ℕ, suc, ◌+◌, List, [], ◌∷◌, ◌++◌, Bool, true, false, Option, Some, None, refl, sym, ap, ap₂, subst, ◌∙◌, arith, inl, inr, ◌⊎◌, ⊎_elim, ◌<◌, ◌≤◌, ◌↔◌, length, cond, option_map, is_some, nat_eq, eqb}
+use Rattle.std.proofs.Common.{◌≡◌, ℕ, [], ◌∷◌, ◌++◌, Bool, true, false, Option, Some, None, refl, sym, ap, ap₂, subst, ◌∙◌, length, cond, option_map, is_some, nat_eq}
 use Rattle.std.specs.FinMap as map
-use Rattle.bench_model.specs.Paths.{Path, path_cmp, is_path, child, parent}
-use Rattle.bench_model.specs.World.{Model, Move, Thread, Threads, World, Mode, write, wake, birth, woken, woken_mode, wakes, newborn, self_after, is_there, threads_after, went}
+use Rattle.bench_model.specs.Paths.{Path, is_path, child, parent}
+use Rattle.bench_model.specs.World.{Move, Thread, Threads, Mode, woken, woken_mode, wakes, newborn, self_after, is_there, threads_after, went}
 use Rattle.bench_model.specs.World.Move.{poke, peek, expect, fork, join, arrive, joinstep, spend, end}
 use Rattle.bench_model.specs.World.Mode.{running, at_join, at_edges, at_joinstep, spent}
-use Rattle.bench_model.proofs.PathFacts.{path_order, path_exact, is_path_refl, is_path_sym, is_path_same, is_path_apart, same_path, parent_child, child_of_parent, child_same}
-use Rattle.std.proofs.lemmas.Bool.{eq-eqb, eqb-true, ne_eqb}
+use Rattle.bench_model.proofs.PathFacts.{path_order, path_exact, is_path_refl, is_path_same, is_path_apart, parent_child, child_of_parent, child_same}
+use Rattle.std.proofs.lemmas.Bool.{eq-eqb, ne_eqb}
 use Rattle.bench_model.proofs.ThreadsFacts.{born_at, woken_at, get_after}
 
 module _ (I : Type 0) where

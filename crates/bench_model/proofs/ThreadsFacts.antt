@@ -1,11 +1,9 @@
 -- What an act leaves at each path.
-use Rattle.std.proofs.Common.{◌≡◌, ◌≢◌, ℕ, suc, ◌+◌, List, [], ◌∷◌, ◌++◌, Bool, true, false, Option, Some, None, refl, sym, ap, ap₂, subst, ◌∙◌, arith, inl, inr, ◌⊎◌, ⊎_elim, ◌<◌, ◌≤◌, ◌↔◌, length, cond, option_map, is_some}
+use Rattle.std.proofs.Common.{◌≡◌, ℕ, Bool, true, false, Option, Some, None, refl, sym, ap, ◌∙◌, cond, option_map}
 use Rattle.std.specs.FinMap as map
-use Rattle.bench_model.specs.Paths.{Path, path_cmp, is_path, child, parent}
-use Rattle.bench_model.specs.World.{Model, Move, Thread, Threads, World, Mode, write, wake, birth, woken, woken_mode, wakes, newborn, self_after, is_there, threads_after}
-use Rattle.bench_model.specs.World.Move.{poke, peek, expect, fork, join, arrive, joinstep, spend, end}
-use Rattle.bench_model.specs.World.Mode.{running, at_join, at_edges, at_joinstep, spent}
-use Rattle.bench_model.proofs.PathFacts.{path_order, path_exact, is_path_refl, is_path_sym, is_path_same, is_path_apart, same_path}
+use Rattle.bench_model.specs.Paths.{Path, is_path}
+use Rattle.bench_model.specs.World.{Move, Thread, Threads, write, wake, birth, woken, wakes, newborn, self_after, is_there, threads_after}
+use Rattle.bench_model.proofs.PathFacts.{path_order, is_path_same}
 
 abbrev pub born_at : {I : Type 0} → Option (Path × Thread I) → Path → Option (Thread I) → Option (Thread I)
 born_at None r o = o

@@ -1,5 +1,5 @@
 -- Turned runs, computed with threads as a list; and what isn't turned is right.
-use Rattle.std.proofs.Common.{◌≡◌, ◌⊎◌, inl, inr, ℕ, suc, List, [], ◌∷◌, length, Bool, true, false, cond, ◌&&◌, ◌||◌, Option, Some, None, refl, sym, ap, ap₂, ◌∙◌}
+use Rattle.std.proofs.Common.{◌≡◌, ℕ, suc, List, [], ◌∷◌, length, Bool, true, false, cond, ◌||◌, Option, Some, None, refl, ap, ap₂, ◌∙◌}
 use Rattle.std.specs.List.{list_any}
 use Rattle.std.specs.FinMap as map
 use Rattle.std.specs.FinMap.{find}
@@ -8,12 +8,12 @@ use Rattle.order_laws.specs.Runs.{Steps, Run, going, settled, conflicted, bounde
 use Rattle.order_laws.specs.Mirror.{Mirrors, map_run}
 use Rattle.order_laws.proofs.MirrorFacts.{after_mirrors}
 use Rattle.bench_model.specs.Paths.{Path, path_cmp}
-use Rattle.bench_model.specs.Log.{Event, link, clash, leads_to_any, scan, conflicts}
-use Rattle.bench_model.specs.World.{Thread, Threads, World, act_of, answer, self_after, newborn, wakes, wake, birth, is_there}
-use Rattle.bench_model.specs.Settle.{Setting, Finish, fails_now, settle, steps}
-use Rattle.bench_model.specs.Orders.{RunOf, start, replay, run_of, is_enabled}
-use Rattle.bench_model.specs.Turned.{Turn, upright, turned_act_of, turned_quiet, turned_conflict, turned_steps, turned_by, is_conflicted, turned_conflicts, link_by, leads_by, scan_by, enabled_in, runs_by, running_in}
-use Rattle.bench_model.proofs.Listed.{Listed, listed, listed_act_of, write_row, birth_row, wake_row, there_row, entries_write, entries_birth, entries_wake, there_same, with_rows, quiet_rows, enabled_row, enabled_same, listed_from, from_listed, listed_start, start_listed, map_same, listed_run_of, run_listed, listed_replay, replay_listed}
+use Rattle.bench_model.specs.Log.{Event, link, clash, leads_to_any, scan}
+use Rattle.bench_model.specs.World.{Thread, World, answer, self_after, newborn, wakes, wake, birth, is_there}
+use Rattle.bench_model.specs.Settle.{Setting, Finish, fails_now, steps}
+use Rattle.bench_model.specs.Orders.{RunOf, start, replay}
+use Rattle.bench_model.specs.Turned.{Turn, upright, turned_act_of, turned_conflict, turned_steps, turned_by, is_conflicted, turned_conflicts, link_by, leads_by, scan_by, enabled_in, runs_by, running_in}
+use Rattle.bench_model.proofs.Listed.{Listed, listed, listed_act_of, write_row, birth_row, wake_row, there_row, entries_write, entries_birth, entries_wake, there_same, quiet_rows, enabled_row, enabled_same, listed_from, from_listed, listed_start, start_listed, map_same, listed_run_of, run_listed, listed_replay, replay_listed}
 
 module _ (S : Setting) where
   -- WHERE NOTHING IS TURNED the runs are those of the bench

@@ -1,11 +1,9 @@
 -- The laws of two moves, at any bench.
-use Rattle.std.proofs.Common.{◌≡◌, ℕ, suc, List, [], ◌∷◌, Bool, true, false, Option, Some, None, refl, sym, ap, subst, ◌∙◌, ◌↔◌}
+use Rattle.std.proofs.Common.{◌≡◌, suc, Some, sym, ap, ◌∙◌}
 use Rattle.std.specs.FinMap as map
-use Rattle.bench_model.specs.Paths.{Path}
-use Rattle.bench_model.specs.Log.{link}
-use Rattle.bench_model.specs.World.{World, Possible, Enabled, WorldAlike, act, act_of, answer}
-use Rattle.bench_model.specs.Settle.{Setting, SettingLaws, steps}
-use Rattle.bench_model.specs.TwoMoves.{Reached, next_event, BehaveAlike, AlikeWorlds, StaysEnabled, Exchange, Exchanges, EnabledBefore}
+use Rattle.bench_model.specs.World.{World, Possible, act, act_of, answer}
+use Rattle.bench_model.specs.Settle.{Setting, SettingLaws}
+use Rattle.bench_model.specs.TwoMoves.{Reached, next_event, AlikeWorlds, StaysEnabled, Exchanges, EnabledBefore}
 use Rattle.bench_model.proofs.LogFacts.{leads_less, leads_more, leads_new}
 use Rattle.bench_model.proofs.WorldAlikeFacts.{enabled_alike, act_alike, world_sym}
 use Rattle.bench_model.proofs.WorldExchange.{rests}

@@ -1,10 +1,9 @@
 -- Alike worlds behave alike.
-use Rattle.std.proofs.Common.{◌≡◌, ◌≢◌, ℕ, suc, ◌+◌, List, [], ◌∷◌, ◌++◌, Bool, true, false, Option, Some, None, refl, sym, ap, ap₂, subst, ◌∙◌, arith, inl, inr, ◌⊎◌, ⊎_elim, ◌<◌, ◌≤◌, ◌↔◌, length, cond, IsPermutation}
+use Rattle.std.proofs.Common.{◌≡◌, suc, List, ◌++◌, Option, Some, None, refl, sym, ap, ap₂, subst, ◌∙◌, IsPermutation}
 use Rattle.std.specs.FinMap as map
 use Rattle.std.proofs.lemmas.List.Sorted.{IsPermutation-refl, IsPermutation-sym, IsPermutation-trans, IsPermutation-append_right}
-use Rattle.bench_model.specs.Paths.{Path, is_path}
-use Rattle.bench_model.specs.Log.{Event, NoConflict, LogAlike}
-use Rattle.bench_model.specs.World.{Model, Move, Thread, World, Record, Enabled, IsRunning, CleanAct, WorldAlike, act, act_of, answer, threads_after, inputs_after, recorded, event_of}
+use Rattle.bench_model.specs.Paths.{Path}
+use Rattle.bench_model.specs.World.{Model, Move, Thread, World, Record, Enabled, CleanAct, WorldAlike, act, act_of, answer, threads_after, inputs_after, recorded, event_of}
 use Rattle.bench_model.proofs.LogFacts.{log_refl, log_sym, log_trans, log_push, no_conflict_alike}
 
 module _ (I : Type 0) where

@@ -1,19 +1,17 @@
 -- Two acts that don't clash may be exchanged.
-use Rattle.std.proofs.Common.{◌≡◌, ◌≢◌, ℕ, suc, ◌+◌, List, [], ◌∷◌, ◌++◌, Bool, true, false, Option, Some, None, refl, sym, ap, ap₂, subst, ◌∙◌, arith, inl, inr, ◌⊎◌, ⊎_elim, ◌<◌, ◌≤◌, ◌↔◌, length, cond, option_map, is_some, nat_eq, nat_lt, eqb, eq-eqb, eqb-true, le_of_eq, ltb-true, le-ltb, append_assoc, IsPermutation, ◌||◌, ◌&&◌, slice_index, slice_set, get_or-set_other, le_antisymm}
+use Rattle.std.proofs.Common.{◌≡◌, ℕ, List, [], ◌++◌, Bool, true, false, Option, Some, None, refl, sym, ap, subst, ◌∙◌, arith, ◌<◌, ◌≤◌, length, cond, option_map, nat_eq, eq-eqb, le_of_eq, le-ltb, append_assoc, IsPermutation, ◌&&◌, get_or-set_other}
 use Rattle.std.specs.FinMap as map
 use Rattle.std.proofs.lemmas.List.{set_comm}
-use Rattle.std.proofs.lemmas.Bool.{or_parts, or_from, or_left, or_right}
-use Rattle.std.proofs.lemmas.List.Sorted.{IsPermutation-refl, IsPermutation-append_left, IsPermutation-append_comm}
-use Rattle.bench_model.specs.Paths.{Path, path_cmp, is_path, child, parent}
-use Rattle.bench_model.specs.Log.{Event, Kind, NoConflict, LogAlike, link, clash, hits, touches, is_fork_of, is_end, names_joined}
-use Rattle.bench_model.specs.World.{Model, ModelLaws, Move, Thread, Threads, World, Mode, Record, Enabled, IsRunning, CleanAct, WorldAlike, Possible, act, act_of, answer, threads_after, inputs_after, recorded, event_of, kind_of, newborn, wakes, woken, woken_mode, self_after, is_there}
-use Rattle.bench_model.specs.World.Move.{poke, peek, expect, fork, join, arrive, joinstep, spend, end}
-use Rattle.bench_model.specs.World.Mode.{running, at_join, at_edges, at_joinstep, spent}
-use Rattle.bench_model.specs.Log.Kind.{pokes, peeks, expects, forks, ends}
-use Rattle.bench_model.proofs.PathFacts.{is_path_refl, is_path_sym, is_path_same, is_path_apart, same_path}
-use Rattle.bench_model.proofs.LogFacts.{log_swap, no_conflict_less, no_conflict_more, no_clash}
+use Rattle.std.proofs.lemmas.Bool.{or_parts, or_from}
+use Rattle.std.proofs.lemmas.List.Sorted.{IsPermutation-append_left, IsPermutation-append_comm}
+use Rattle.bench_model.specs.Paths.{Path, is_path, child}
+use Rattle.bench_model.specs.Log.{link, clash, hits, is_fork_of, is_end, names_joined}
+use Rattle.bench_model.specs.World.{Model, ModelLaws, Move, Thread, World, Record, IsRunning, WorldAlike, Possible, act_of, answer, threads_after, inputs_after, recorded, event_of, kind_of, newborn, wakes, woken_mode, self_after, is_there}
+use Rattle.bench_model.specs.World.Move.{poke, peek, expect, fork}
+use Rattle.bench_model.proofs.PathFacts.{is_path_sym, is_path_same, is_path_apart}
+use Rattle.bench_model.proofs.LogFacts.{log_swap}
 use Rattle.bench_model.proofs.ThreadsFacts.{born_at, woken_at, get_after}
-use Rattle.bench_model.proofs.ThreadsExchange.{Away, Side, side_of, untouched, threads_exchange}
+use Rattle.bench_model.proofs.ThreadsExchange.{Away, side_of, untouched, threads_exchange}
 
 module _ (M : Model) (L : ModelLaws M) where
   apart_numbers : (p q : ℕ) → nat_eq q p ≡ false → (q ≡ p → ⊥)

@@ -1,11 +1,11 @@
 -- Worlds meet the laws of a machine.
-use Rattle.std.proofs.Common.{◌≡◌, ◌≢◌, ℕ, suc, ◌+◌, List, [], ◌∷◌, ◌++◌, Bool, true, false, Option, Some, None, refl, sym, ap, ap₂, subst, ◌∙◌, arith, inl, inr, ◌⊎◌, ⊎_elim, ◌<◌, ◌≤◌, ◌↔◌, ◌||◌, le_antisymm}
+use Rattle.std.proofs.Common.{◌≡◌, ◌∷◌, false, Some, sym, ap, subst, ◌∙◌, le_antisymm}
 use Rattle.std.specs.FinMap as map
 use Rattle.std.proofs.lemmas.Bool.{or_parts, or_from}
-use Rattle.order_laws.specs.System.{System, Laws}
-use Rattle.bench_model.specs.Paths.{Path, path_cmp, is_path, child, parent}
-use Rattle.bench_model.specs.Log.{Event, Kind, NoConflict, LogAlike, link, clash, hits}
-use Rattle.bench_model.specs.World.{Model, ModelLaws, Move, Thread, Threads, World, Enabled, IsRunning, CleanAct, WorldAlike, Possible, act, act_of, answer, threads_after, event_of, kind_of, worlds}
+use Rattle.order_laws.specs.System.{Laws}
+use Rattle.bench_model.specs.Paths.{Path}
+use Rattle.bench_model.specs.Log.{Kind, NoConflict, link, clash, hits}
+use Rattle.bench_model.specs.World.{Model, ModelLaws, Thread, World, Enabled, CleanAct, WorldAlike, Possible, act, act_of, answer, threads_after, event_of, kind_of, worlds}
 use Rattle.bench_model.proofs.PathFacts.{same_path}
 use Rattle.bench_model.proofs.LogFacts.{no_conflict_less, no_conflict_more, no_clash}
 use Rattle.bench_model.proofs.WorldAlikeFacts.{world_refl, world_sym, world_trans, enabled_alike, clean_alike, act_alike}

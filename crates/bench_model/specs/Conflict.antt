@@ -1,5 +1,5 @@
 -- Conflicts within a log, by places, and the first pair.
-use Rattle.std.specs.Prelude.{◌≡◌, ◌⊎◌, ℕ, ◌<◌, ◌≤◌, List, [], ◌∷◌, Bool, true, false}
+use Rattle.std.specs.Prelude.{◌≡◌, ℕ, ◌<◌, ◌≤◌, List, Bool, true}
 use Rattle.bench_model.specs.Log.{Event, AtBy, BeforeBy, place, clash}
 
 -- the event d stands at the place i of the log, counted from the oldest event

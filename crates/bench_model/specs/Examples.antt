@@ -1,13 +1,11 @@
 -- Small tests over two small circuits.
-use Rattle.std.specs.Prelude.{◌≡◌, ℕ, zero, suc, List, [], ◌∷◌, Bool, true, false, Option, Some, None}
-use Rattle.bench_model.specs.Paths.{Path, child}
+use Rattle.std.specs.Prelude.{ℕ, zero, suc, List, [], ◌∷◌, Option, Some, None}
+use Rattle.bench_model.specs.Paths.{Path}
 use Rattle.bench_model.specs.Log.{Event, Kind}
-use Rattle.bench_model.specs.Log.Kind.{pokes, peeks, expects, forks, joins, arrives, joinsteps, spends, ends}
 use Rattle.bench_model.specs.World.{Record}
-use Rattle.bench_model.specs.Settle.{Limits, Setting, Ending}
-use Rattle.bench_model.specs.Settle.Ending.{failed, spent_at, finished, thread_limit, record_limit, action_limit, time_limit}
-use Rattle.bench_model.specs.Orders.{Outcome, Result, conflict, step_limit, settles, first_order, replay, run_of}
-use Rattle.bench_model.specs.Small.{Circuit, Test, done, poke_then, peek_then, expect_then, fork_then, join_then, joinstep_then, step_then, stuck, setting}
+use Rattle.bench_model.specs.Settle.{Limits}
+use Rattle.bench_model.specs.Orders.{Outcome, Result, first_order, replay, run_of}
+use Rattle.bench_model.specs.Small.{Circuit, Test, done, poke_then, peek_then, expect_then, fork_then, join_then, joinstep_then, step_then, setting}
 
 -- an adder: the inputs a and b, and out, their sum
 abbrev pub adder : Circuit

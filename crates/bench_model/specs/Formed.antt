@@ -1,7 +1,7 @@
 -- What the log of every permitted order has: it is formed. By places, counted from the oldest event.
-use Rattle.std.specs.Prelude.{◌≡◌, ℕ, ◌<◌, ◌≤◌, List, [], ◌∷◌, ◌++◌, Option, Some, None, Bool, true}
+use Rattle.std.specs.Prelude.{◌≡◌, ℕ, ◌<◌, ◌≤◌, List, ◌∷◌, ◌++◌, Some, true}
 use Rattle.bench_model.specs.Paths.{Path, child}
-use Rattle.bench_model.specs.Log.{Kind, Event, link}
+use Rattle.bench_model.specs.Log.{Event, link}
 use Rattle.bench_model.specs.Log.Kind.{forks, ends}
 use Rattle.bench_model.specs.Conflict.{HasAt}
 

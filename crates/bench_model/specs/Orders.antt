@@ -1,5 +1,5 @@
 -- Permitted orders, the one-thread order, outcomes, and what a run gives.
-use Rattle.std.specs.Prelude.{◌≡◌, ◌⊎◌, ℕ, suc, ◌*◌, ◌≤◌, max, List, [], ◌∷◌, ◌++◌, length, reverse, Bool, true, false, cond, not, ◌&&◌, nat_lt, Option, Some, None, option_map}
+use Rattle.std.specs.Prelude.{◌≡◌, ℕ, ◌*◌, ◌≤◌, max, List, [], ◌∷◌, ◌++◌, length, reverse, Bool, false, cond, not, ◌&&◌, nat_lt, Option, Some, None, option_map}
 use Rattle.std.specs.List.{list_any}
 use Rattle.std.specs.FinMap as map
 use Rattle.order_laws.specs.System.{Permitted, after}
@@ -10,7 +10,7 @@ use Rattle.bench_model.specs.Log.{Event, least_place, event_at}
 use Rattle.bench_model.specs.Conflict.{IsFirstPair, HasAt, IsFree}
 use Rattle.bench_model.specs.Formed.{Formed}
 use Rattle.bench_model.specs.Sorting.{record_le, sorted}
-use Rattle.bench_model.specs.World.{Model, Thread, World, Record, Enabled, act}
+use Rattle.bench_model.specs.World.{Thread, World, Record, Enabled, act}
 use Rattle.bench_model.specs.World.Mode.{running}
 use Rattle.bench_model.specs.Settle.{Ending, is_running, Setting, Finish, steps}
 

@@ -9,7 +9,7 @@ use Rattle.order_laws.specs.Runs.{Steps}
 use Rattle.bench_model.specs.Paths.{Path, path_cmp, child}
 use Rattle.bench_model.specs.Log.{conflicts}
 use Rattle.bench_model.specs.World.{Model, ModelLaws, Thread, Threads, World, Mode, Record, worlds, event_of}
-use Rattle.bench_model.specs.World.Mode.{running, at_join, at_edges, at_joinstep, spent}
+use Rattle.bench_model.specs.World.Mode.{running, at_edges, at_joinstep, spent}
 
 -- ---- limits
 

@@ -1,5 +1,5 @@
 -- What the functions of this crate answer, in the words of the model.
-use Rattle.std.specs.Prelude.{ℕ, Option, Some, None}
+use Rattle.std.specs.Prelude.{Option, Some, None}
 use Rattle.bench_model.specs.declared.limits.EndLimits.{EndLimits}
 use Rattle.bench_model.specs.declared.limits.Passed.{Passed}
 use Rattle.bench_model.specs.declared.limits.Passed.TheVariants.{Threads, Records, Actions, TimeSteps}

@@ -1,15 +1,15 @@
 -- The definitions turned, one at a time: what each would give in place of the right one.
-use Rattle.std.specs.Prelude.{◌≡◌, ℕ, List, [], ◌∷◌, Bool, true, false, cond, not, ◌&&◌, ◌||◌, nat_lt, nat_eq, length, slice_index, Option, Some, None}
+use Rattle.std.specs.Prelude.{ℕ, List, [], ◌∷◌, Bool, true, false, cond, not, ◌&&◌, ◌||◌, nat_lt, nat_eq, length, slice_index, Option, Some, None}
 use Rattle.std.specs.List.{list_any}
 use Rattle.std.specs.FinMap as map
 use Rattle.order_laws.specs.System.{after}
-use Rattle.order_laws.specs.Runs.{Steps, Run, going, settled, conflicted, bounded, runs}
+use Rattle.order_laws.specs.Runs.{Steps, Run, going, conflicted, runs}
 use Rattle.bench_model.specs.Paths.{Path, is_path}
-use Rattle.bench_model.specs.Log.{Event, Kind, link, is_fork_of, is_end, names_joined, clash, conflicts}
+use Rattle.bench_model.specs.Log.{Event, is_fork_of, is_end, names_joined, clash, conflicts}
 use Rattle.bench_model.specs.World.{Model, Move, Thread, World, act_of, answer, event_of, self_after, newborn, wakes, write, wake, birth, is_there, worlds}
 use Rattle.bench_model.specs.World.Move.{poke}
-use Rattle.bench_model.specs.Settle.{Setting, Finish, FinishAlike, quiet, is_running, fails_now, settle, steps}
-use Rattle.bench_model.specs.Orders.{RunOf, Result, Outcome, start, replay, is_enabled, run_of}
+use Rattle.bench_model.specs.Settle.{Setting, Finish, FinishAlike, quiet, is_running, fails_now, settle}
+use Rattle.bench_model.specs.Orders.{Result, Outcome, start, is_enabled, run_of}
 
 -- WHAT MAY BE TURNED: a join waits for a child that has ended too; a failure ends the run at once; another test for conflicts
 pub record Turn (S : Setting) : Type 0 where

@@ -1,5 +1,5 @@
 -- The laws of two moves: what is claimed of alike worlds, and of two threads that are enabled.
-use Rattle.std.specs.Prelude.{◌≡◌, ◌↔◌, ℕ, List, [], ◌∷◌, Bool, false, Option, Some}
+use Rattle.std.specs.Prelude.{◌≡◌, ◌↔◌, ℕ, List, ◌∷◌, false, Some}
 use Rattle.std.specs.FinMap as map
 use Rattle.order_laws.specs.Runs.{going, SettleAlike}
 use Rattle.bench_model.specs.Paths.{Path}

@@ -1,9 +1,9 @@
 -- Worlds of a bench: what a thread does next, what its act leaves, and who may act.
-use Rattle.std.specs.Prelude.{◌≡◌, ◌⊎◌, ◌↔◌, ℕ, zero, suc, ◌+◌, ◌<◌, ◌≤◌, List, [], ◌∷◌, ◌++◌, length, Bool, true, false, cond, ◌&&◌, ◌||◌, nat_lt, nat_eq, Option, Some, None, is_some, slice_index, slice_set, option_map, IsPermutation}
+use Rattle.std.specs.Prelude.{◌≡◌, ℕ, suc, ◌<◌, ◌≤◌, List, [], ◌∷◌, ◌++◌, length, Bool, false, cond, nat_eq, Option, Some, None, is_some, slice_index, slice_set, option_map, IsPermutation}
 use Rattle.std.specs.FinMap as map
 use Rattle.std.specs.FinMap.{FinMap}
-use Rattle.bench_model.specs.Paths.{Path, path_cmp, is_path, child, parent}
-use Rattle.bench_model.specs.Log.{Kind, Event, Name, NoConflict, LogAlike, link, clash}
+use Rattle.bench_model.specs.Paths.{Path, path_cmp, child, parent}
+use Rattle.bench_model.specs.Log.{Kind, Event, NoConflict, LogAlike}
 use Rattle.order_laws.specs.System.{System}
 use Rattle.bench_model.specs.Log.Kind.{pokes, peeks, expects, forks, joins, arrives, joinsteps, spends, ends}
 

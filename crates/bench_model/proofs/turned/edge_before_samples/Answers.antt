@@ -1,4 +1,3 @@
-use Rattle.std.proofs.Common.{[], ◌∷◌}
 use Rattle.bench_model.specs.Paths.{child, is_path}
 use Rattle.bench_model.specs.Small.{setting}
 use Rattle.bench_model.specs.Examples.{delay, few, past_register}
