@@ -1,4 +1,7 @@
 -- Texts in a row, as a loop writes them.
+-- The invariant of a loop over `items` that writes each as `item_text`, with the separator between each two, is
+-- `Wrote sep true l.initial.out.items l.out.items l.is_first (map item_text (take l.item-index l.items))`. It holds at
+-- the start and gives `joined` at the end without an answer; the step is one `wrote_next`.
 use Rattle.std.proofs.Common.{◌≡◌, ℕ, ◌+◌, ◌<◌, ◌≤◌, Bool, true, false, List, [], ◌∷◌, ◌++◌, refl, sym, ap, ◌∙◌, append_assoc, append-nil, length, take, map, get_or, subst, arith}
 use Rattle.std.specs.Prelude.{◌&&◌, ◌==◌}
 use Rattle.std.proofs.lemmas.Bool.{ne_eqb}

@@ -1,5 +1,5 @@
 -- Worked examples: what the definitions say of values that a reader can follow.
-use Rattle.std.specs.Prelude.{ℕ, ◌≡◌, Bool, true, false, Some, None, [], ◌∷◌, codes}
+use Rattle.std.specs.Prelude.{ℕ, ◌≡◌, true, false, Some, None, [], ◌∷◌, codes}
 use Rattle.tb_base.specs.Word.{Word}
 use Rattle.tb_base.specs.Row.{applied, width_of}
 use Rattle.tb_base.specs.Names.{op_named}

@@ -5,7 +5,7 @@
 //! either case, the base's letter only as it stands here. There is no sign, no blank and no
 //! separator, and leading zeros are free. `IsNumeral` says which texts these are, and
 //! `numeral_value` which number such a text spells.
-ghost use Rattle.std.specs.Prelude.{◌≡◌, ◌<◌, ◌≤◌, ◌^◌, ◌≢◌, [], ◌∷◌, length, slice_index, drop, ℕ};
+ghost use Rattle.std.specs.Prelude.{◌≡◌, ◌<◌, ◌≤◌, ◌^◌, ℕ};
 ghost use Rattle.std.specs.Fmt.{decimal};
 ghost use Rattle.std.specs.Option.{SomeIff};
 ghost use Rattle.std.specs.Str.Parse.{digits_value, AllDigits};

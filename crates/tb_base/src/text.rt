@@ -5,9 +5,19 @@
 //! `part` is a definition in terms of its arguments. So a printer of several parts is one call
 //! after another, and its proof needs nothing but that `++` may be regrouped.
 //!
-//! Of a list, each item is written behind `put_gap`, which leaves the separator out in front of the
-//! first. `joined` is what such a loop has written at its end; `Wrote`, in `proofs/JoinedLemmas`,
-//! is its invariant, and `wrote_next` the step.
+//! A list is a loop of this shape, which has written `joined` of the separator and the items' texts
+//! at its end:
+//!
+//! ```text
+//! let mut is_first = true;
+//! for item in items {
+//!     put_gap(out, b", ", is_first)?;
+//!     put_item(out, item)?;
+//!     is_first = false;
+//! }
+//! ```
+//!
+//! `Wrote`, in `proofs/JoinedLemmas`, is its invariant, and `wrote_next` its step.
 ghost use Rattle.std.specs.Prelude.{◌≡◌, ◌++◌, OnOk, OnErr, map, codes};
 ghost use Rattle.std.specs.Fmt.{decimal};
 ghost use Rattle.tb_base.specs.Joined.{gap, joined_after, led};

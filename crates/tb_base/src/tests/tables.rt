@@ -1,4 +1,5 @@
-//! Rows of the table of operations, worked out apart from this crate with Python's whole numbers.
+//! What the tests want, in lines of text. The rows of the table of operations and the widths were
+//! worked out apart from this crate, with Python's whole numbers.
 
 /// A line is an operation, its operands and its numbers, and behind ` = ` what its row gives. `s4:9` is
 /// the SInt of width 4 with the raw bits 9, `u` stands for UInt, and `none` says that nothing fits.
@@ -376,4 +377,42 @@ tail s w8 3 = 5
 tail u w8 9 = 0
 mux u w129 w8 w4 = 8
 mux u w1 w0 w128 = 128
+";
+
+/// A line is a text, and behind ` = ` the number that it spells, or `none`.
+pub const NUMBERS: &str = "\
+0 = 0
+7 = 7
+007 = 7
+1234567890 = 1234567890
+340282366920938463463374607431768211455 = 340282366920938463463374607431768211455
+340282366920938463463374607431768211456 = none
+999999999999999999999999999999999999999999 = none
+0b101 = 5
+0b0000 = 0
+0b102 = none
+0o17 = 15
+0o18 = none
+0d42 = 42
+0d4a = none
+0xfF = 255
+0hfF = 255
+0xfg = none
+0xffffffffffffffffffffffffffffffff = 340282366920938463463374607431768211455
+0x100000000000000000000000000000000 = none
+0x00000000000000000000000000000000000000ff = 255
+0B1 = none
+0X1 = none
+0H1 = none
+0b = none
+0x = none
+00x1 = none
+1x1 = none
+ = none
+-1 = none
++1 = none
+ 1 = none
+1  = none
+1_000 = none
+ff = none
 ";

@@ -1,4 +1,4 @@
-use Rattle.std.proofs.Common.{◌<◌, ◌≤◌, ◌≡◌, ◌*◌, arith, rules, length, subst, sym, ap}
+use Rattle.std.proofs.Common.{◌<◌, ◌*◌, arith, ap}
 use Rattle.std.proofs.Common.{◌^◌}
 use Rattle.std.specs.Str.Parse.{digits_value}
 use Rattle.std.specs.Char.{digit_value}
