@@ -18,4 +18,4 @@ mod tokens;
 
 pub use fault::{Form, Kind, ReadError};
 pub use item::{Item, Symbol, Token};
-pub use tokens::{Tokens, same};
+pub use tokens::Tokens;

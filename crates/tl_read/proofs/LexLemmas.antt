@@ -6,26 +6,8 @@ use Rattle.text_grammar.specs.declared.item.Item.{Item}
 use Rattle.text_grammar.specs.declared.item.Token.{Token}
 use Rattle.text_grammar.specs.declared.lex.Piece.{Piece}
 use Rattle.text_grammar.specs.Lex.{place_past, text_start}
-use Rattle.tl_read.specs.Lex.{piece, placed, items_from, items_of}
-
-items_later : (n : ℕ) (p : Place) (z : List ℕ) → items_from n p z ≡ items_from 0 p (drop n z)
-unfolding items_from
-items_later zero p z = refl
-items_later (suc n) p [] = refl
-items_later (suc n) p (b ∷ z) = items_later n p z
-
-drop-cons : (n b : ℕ) (z : List ℕ) → 1 ≤ n → drop (n - 1) z ≡ drop n (b ∷ z)
-drop-cons zero b z h = absurd (omega arith)
-drop-cons (suc n) b z h = let e : suc n - 1 ≡ n = omega arith in ap (λ k. drop k z) e
-
--- the piece at the head, and the items after it
-pub items_go : (p : Place) (z : List ℕ) → 0 < length z → 1 ≤ (piece z).len → items_from 0 p z ≡ placed (piece z).token p (items_from 0 (place_past p (get_or z 0 0) (piece z).len) (drop (piece z).len z))
-unfolding items_from
-items_go p [] some moves = absurd (omega arith)
-items_go p (b ∷ z) some moves =
-    let n : ℕ = (piece (b ∷ z)).len in
-    let q : Place = place_past p b n in
-    ap (placed (piece (b ∷ z)).token p) (items_later (n - 1) q z ∙ ap (items_from 0 q) (drop-cons n b z moves))
+use Rattle.tl_read.specs.Lex.{piece, placed, place_after, items_from, items_of}
+use Rattle.tl_read.proofs.Feeds.{items_go}
 
 -- what is put behind the items found, with the items after it
 pub placed_later : (found : List Item) (t : Option Token) (p : Place) (more : List Item) → (found ++ placed t p []) ++ more ≡ found ++ placed t p more
@@ -39,10 +21,10 @@ placed_count (Some t) p more = omega arith
 from_count : (n : ℕ) (p : Place) (z : List ℕ) → length (items_from n p z) ≤ length z
 unfolding items_from
 from_count n p [] = omega arith
-from_count (suc n) p (b ∷ z) = omega (arith, from_count n p z)
+from_count (suc n) p (b ∷ z) = omega (arith, from_count n (place_after p b) z)
 from_count zero p (b ∷ z) =
     let c = piece (b ∷ z) in
-    let q : Place = place_past p b c.len in
+    let q : Place = place_after p b in
     omega (arith, placed_count c.token p (items_from (c.len - 1) q z), from_count (c.len - 1) q z)
 
 -- a text has at most as many items as bytes
@@ -52,15 +34,15 @@ items_count text = from_count 0 text_start text
 
 -- ---- a turn of the lexer's loop
 
-go_by : (p : Place) (z : List ℕ) (c : Piece) → c ≡ piece z → 0 < length z → 1 ≤ c.len → items_from 0 p z ≡ placed c.token p (items_from 0 (place_past p (get_or z 0 0) c.len) (drop c.len z))
-go_by p z c e some moves =
-    let Q : Piece → Type 0 = λ k. 1 ≤ k.len → items_from 0 p z ≡ placed k.token p (items_from 0 (place_past p (get_or z 0 0) k.len) (drop k.len z)) in
-    subst Q (sym e) (items_go p z some) moves
+go_by : (p : Place) (z : List ℕ) (c : Piece) → c ≡ piece z → 0 < length z → 1 ≤ c.len → c.len ≤ length z → items_from 0 p z ≡ placed c.token p (items_from 0 (place_past p (get_or z 0 0) c.len) (drop c.len z))
+go_by p z c e some moves within =
+    let Q : Piece → Type 0 = λ k. 1 ≤ k.len → k.len ≤ length z → items_from 0 p z ≡ placed k.token p (items_from 0 (place_past p (get_or z 0 0) k.len) (drop k.len z)) in
+    subst Q (sym e) (items_go p z some) moves within
 
-pub turn : (found found' all : List Item) (p p' : Place) (z : List ℕ) (c : Piece) → found ++ items_from 0 p z ≡ all → c ≡ piece z → 0 < length z → 1 ≤ c.len → found' ≡ found ++ placed c.token p [] → p' ≡ place_past p (get_or z 0 0) c.len
+pub turn : (found found' all : List Item) (p p' : Place) (z : List ℕ) (c : Piece) → found ++ items_from 0 p z ≡ all → c ≡ piece z → 0 < length z → 1 ≤ c.len → c.len ≤ length z → found' ≡ found ++ placed c.token p [] → p' ≡ place_past p (get_or z 0 0) c.len
     → found' ++ items_from 0 p' (drop c.len z) ≡ all
-turn found found' all p p' z c so_far e some moves puts past =
-    rw (puts, past) (placed_later found c.token p _ ∙ ap (λ (more : List Item). found ++ more) (sym (go_by p z c e some moves)) ∙ so_far)
+turn found found' all p p' z c so_far e some moves within puts past =
+    rw (puts, past) (placed_later found c.token p _ ∙ ap (λ (more : List Item). found ++ more) (sym (go_by p z c e some moves within)) ∙ so_far)
 
 pub past_line : (p : Place) (b n : ℕ) → 1 ≤ p.line → 1 ≤ (place_past p b n).line
 past_line p b n h = elim (b == 10) as (λ t. 1 ≤ (cond {A = Place} t (record { line = p.line + 1; column = 1 }) (record { line = p.line; column = p.column + n })).line) [ true ↦ omega arith | false ↦ h ]

@@ -6,5 +6,5 @@ use Rattle.tl_read.specs.declared.form.FormFault.TheVariants as fault
 
 -- a text with a fault anywhere is not in the first form
 abbrev pub form_fault : ReadError → FormFault
-form_fault errors.Memory = fault.Memory (record { })
+form_fault errors.Memory = fault.Memory (record {})
 form_fault (errors.At kind left) = fault.NotInForm

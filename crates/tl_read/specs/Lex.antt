@@ -1,5 +1,5 @@
 -- The items of a test text: its tokens, each with its place.
-use Rattle.std.specs.Prelude.{ℕ, zero, suc, ◌-◌, ◌==◌, ◌||◌, Bool, if◌then◌else◌, List, [], ◌∷◌, take, slice_index, Option, Some, None, codes}
+use Rattle.std.specs.Prelude.{ℕ, zero, suc, ◌+◌, ◌-◌, ◌==◌, ◌||◌, Bool, if◌then◌else◌, List, [], ◌∷◌, take, slice_index, Option, Some, None, codes}
 use Rattle.std.specs.Char.{is_ascii_digit}
 use Rattle.std.specs.Str.{byte, bytes_eq}
 use Rattle.tb_base.specs.declared.place.Place.{Place}
@@ -9,7 +9,7 @@ use Rattle.text_grammar.specs.declared.item.Token.TheVariants as token
 use Rattle.text_grammar.specs.declared.item.Symbol.{Symbol}
 use Rattle.text_grammar.specs.declared.item.Symbol.TheVariants as s
 use Rattle.text_grammar.specs.declared.lex.Piece.{Piece}
-use Rattle.text_grammar.specs.Lex.{begins_word, word, decimal, text_start, place_past}
+use Rattle.text_grammar.specs.Lex.{begins_word, word, decimal, text_start}
 
 -- white space: space, tab, line feed, carriage return
 abbrev pub is_blank : ℕ → Bool
@@ -50,11 +50,15 @@ abbrev pub placed : Option Token → Place → List Item → List Item
 placed None p more = more
 placed (Some t) p more = record { place = p; token = t } ∷ more
 
+-- the place of the byte after b, which stands at p: a line feed ends its line
+abbrev pub place_after : Place → ℕ → Place
+place_after p b = if b == 10 then record { line = p.line + 1; column = 1 } else record { line = p.line; column = p.column + 1 }
+
 -- The items from a place on. The number counts the bytes that are left of a piece which began before.
 unfoldable pub items_from : ℕ → Place → List ℕ → List Item
 items_from left p [] = []
-items_from (suc left) p (b ∷ rest) = items_from left p rest
-items_from zero p (b ∷ rest) = let c = piece (b ∷ rest) in placed c.token p (items_from (c.len - 1) (place_past p b c.len) rest)
+items_from (suc left) p (b ∷ rest) = items_from left (place_after p b) rest
+items_from zero p (b ∷ rest) = let c = piece (b ∷ rest) in placed c.token p (items_from (c.len - 1) (place_after p b) rest)
 
 unfoldable pub items_of : List ℕ → List Item
 items_of text = items_from 0 text_start text

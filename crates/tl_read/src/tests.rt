@@ -4,7 +4,7 @@ use tb_base::{Memory, Name};
 use text_grammar::{Item, Symbol, Token};
 
 fn not_in_form(rt: &HostRuntime, text: &[u8]) -> bool {
-    matches!(read_test(rt.alloc(), text), Err(FormFault::NotInForm))
+    text.len() < 100 && matches!(read_test(rt.alloc(), text), Err(FormFault::NotInForm))
 }
 
 fn stands_at(item: &Item, line: u32, column: u32) -> bool {

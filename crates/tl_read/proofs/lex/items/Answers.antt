@@ -17,7 +17,7 @@ loop-rest-preserved c =
     let past = c.place_past-place.ensures in
     let put : c.put.new.items.items ≡ c.loop-rest.found.items ++ placed k.token p [] = (let e = c.in_ok-put.ensures in let t = c.in_ok-token.token-is in cc) in
     record {
-      so_far = rw (take_rest z k.len) (turn c.loop-rest.found.items c.put.new.items.items _ p c.place_past-place.result z k c.loop-rest.invariant.so_far c.in_ok-token.ensures.value c.in-len1-up.len_at_least within.0 put past);
+      so_far = rw (take_rest z k.len) (turn c.loop-rest.found.items c.put.new.items.items _ p c.place_past-place.result z k c.loop-rest.invariant.so_far c.in_ok-token.ensures.value c.in-len1-up.len_at_least within.0 within.1 put past);
       line = rw past (past_line p (get_or z 0 0) k.len c.loop-rest.invariant.line);
       column = rw past (past_column p (get_or z 0 0) k.len c.loop-rest.invariant.column);
       room = rw (take_rest z k.len, past) (past_left p (get_or z 0 0) k.len z _ c.loop-rest.invariant.column within.0 within.1 c.loop-rest.invariant.room);
