@@ -1,7 +1,8 @@
 //! Want of memory.
 //!
-//! Whatever takes memory may find none, and answers `Memory` then. It has one value, so that no
-//! contract says anything of it but that it came; `?` makes it of the errors of std's calls.
+//! Whatever takes memory may find none, and answers `Memory` then. It has one value, so a contract
+//! says of it only that it came. `?` makes it of the errors of std's calls.
+ghost use Rattle.std.specs.Prelude.{◌≡◌, Some, codes};
 
 use std::alloc::{AllocError, AllocFailed};
 use std::fmt;
@@ -11,12 +12,16 @@ use std::fmt;
 pub struct Memory;
 
 impl From<AllocError> for Memory {
+    ghost from_gives = { λ _ e. e ≡ record {} };
+
     fn from(_e: AllocError) -> Memory {
         Memory
     }
 }
 
 impl<T: Drop> From<AllocFailed<T>> for Memory {
+    ghost from_gives = { λ _ e. e ≡ record {} };
+
     fn from(_e: AllocFailed<T>) -> Memory {
         Memory
     }
@@ -24,6 +29,8 @@ impl<T: Drop> From<AllocFailed<T>> for Memory {
 
 /// Prints `out of memory`.
 impl fmt::Display for Memory {
+    ghost output = { λ _. Some (codes "out of memory") };
+
     fn fmt<W: fmt::Write>(&self, f: &mut fmt::Formatter<W>) -> fmt::Result {
         write!(f, "out of memory")
     }

@@ -1,4 +1,6 @@
 //! Places in a text.
+ghost use Rattle.std.specs.Prelude.{Some};
+ghost use Rattle.tb_base.specs.Places.{place_text};
 
 use std::fmt;
 
@@ -11,6 +13,8 @@ pub struct Place {
 
 /// Prints `line 3 column 14`.
 impl fmt::Display for Place {
+    ghost output = { λ p. Some (place_text p.line p.column) };
+
     fn fmt<W: fmt::Write>(&self, f: &mut fmt::Formatter<W>) -> fmt::Result {
         write!(f, "line {} column {}", self.line, self.column)
     }

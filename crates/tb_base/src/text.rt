@@ -12,9 +12,11 @@ ghost use Rattle.std.specs.Prelude.{◌≡◌, ◌++◌, OnOk, OnErr, map, codes
 ghost use Rattle.std.specs.Fmt.{decimal};
 ghost use Rattle.tb_base.specs.Joined.{gap, joined_after, led};
 ghost use Rattle.tb_base.specs.Paths.{path_text};
+ghost use Rattle.tb_base.specs.Places.{place_text};
 
 use crate::Memory;
 use crate::path::Path;
+use crate::place::Place;
 use std::alloc::Global;
 
 /// Puts `text` at the end of `out`. Where memory is wanting, `out` is as it was.
@@ -84,6 +86,18 @@ pub fn put_path(alloc: Global, out: &mut Vec<u8>, path: &Path) -> Result<(), Mem
         return Ok(());
     }
     put_steps(alloc, out, path.numbers())?;
+    Ok(())
+}
+
+/// Puts the place at the end of `out`, as `line 3 column 14`. Where memory is wanting, a part of it
+/// may have been written.
+pub fn put_place(alloc: Global, out: &mut Vec<u8>, place: Place) -> Result<(), Memory>
+    ensures { OnOk result (out.new.items ≡ out.old.items ++ place_text place.line place.column) }
+{
+    put(out, b"line ")?;
+    put_decimal(alloc, out, u128::from(place.line))?;
+    put(out, b" column ")?;
+    put_decimal(alloc, out, u128::from(place.column))?;
     Ok(())
 }
 
