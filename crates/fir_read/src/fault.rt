@@ -1,16 +1,16 @@
-//! Why a text is refused.
+//! Why a circuit of the first form isn't made.
 ghost use Rattle.std.specs.Prelude.{◌≡◌};
 
 use tb_base::Memory;
 use thiserror::Error;
 
-/// Why no circuit of the first form was made.
+/// Why a text or a tree gives no circuit of the first form.
 #[derive(Debug, Drop, Error)]
 pub enum FormFault {
-    /// The text is no circuit of the first form.
+    /// It isn't in the first form.
     #[error("not in the first form")]
     NotInForm,
-    /// Memory ran out; nothing is said of the text.
+    /// There wasn't enough memory to tell.
     #[error("out of memory")]
     Memory(Memory),
 }
