@@ -1,11 +1,11 @@
 -- How the loops of the lexer go through a line and through a text.
-use Rattle.std.proofs.Common.{◌≡◌, ℕ, zero, suc, ◌+◌, ◌-◌, ◌<◌, ◌≤◌, Bool, true, false, not, ◌==◌, List, [], ◌∷◌, ◌++◌, length, take, drop, refl, sym, ap, ◌∙◌, append_assoc, arith}
+use Rattle.std.proofs.Common.{◌≡◌, ℕ, zero, suc, ◌+◌, ◌-◌, ◌<◌, ◌≤◌, Bool, true, false, ◌==◌, List, [], ◌∷◌, ◌++◌, length, take, drop, refl, sym, ap, ◌∙◌, append_assoc, arith}
 use Rattle.std.specs.List.{slice_split, position_or_len}
 use Rattle.std.proofs.lemmas.List.{append-nil}
 use Rattle.std.proofs.lemmas.List.Splits.{slice_split_first}
 use Rattle.text_grammar.specs.declared.item.Item.{Item}
 use Rattle.text_grammar.specs.declared.lex.Piece.{Piece}
-use Rattle.fir_read.specs.Lex.{is_space, is_feed, piece, placed, tokens, line_items, items_from}
+use Rattle.fir_read.specs.Lex.{is_feed, piece, placed, tokens, line_items, items_from}
 
 -- the bytes of a token are gone over
 left_is : (line column n : ℕ) (bytes : List ℕ) → n ≤ length bytes → tokens line column n bytes ≡ tokens line (column + n) 0 (drop n bytes)

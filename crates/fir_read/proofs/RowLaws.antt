@@ -1,12 +1,12 @@
 -- The laws of the rows: what is read is spelled so, and what is spelled so is read.
-use Rattle.std.proofs.Common.{◌≡◌, ℕ, Bool, true, false, ◌&&◌, ◌||◌, Option, Some, None, List, [], ◌∷◌, ◌++◌, refl, sym, ap, ◌∙◌, append_assoc}
+use Rattle.std.proofs.Common.{◌≡◌, ℕ, Bool, true, false, ◌&&◌, ◌||◌, Some, List, [], ◌∷◌, ◌++◌, refl, append_assoc}
 use Rattle.std.specs.Prelude.{codes}
 use Rattle.std.specs.Str.{bytes_eq}
 use Rattle.text_grammar.specs.declared.item.Item.{Item}
 use Rattle.text_grammar.specs.declared.item.Token.TheVariants as token
 use Rattle.text_grammar.specs.declared.item.Symbol.TheVariants as s
 use Rattle.text_grammar.specs.declared.fault.Kind.{Kind}
-use Rattle.text_grammar.specs.Part.{Part, first, second, SpellsMany, starts, both, after, either, pick, nothing, many}
+use Rattle.text_grammar.specs.Part.{Part, first, second, SpellsMany, starts, nothing, many}
 use Rattle.text_grammar.specs.Terminals.{at, line_if, is_word, is_symbol, keyword, mark, name, number}
 use Rattle.text_grammar.proofs.Laws.{Step, IsRead, Begins, Avoids, closed, or_more, starts_closed, one_step, one_read, one_begins, nothing_step, nothing_read, nothing_avoids, both_step, both_read_closed, both_read_avoids, both_begins, after_step, after_read_closed, either_step, either_read, either_begins, avoids_apart, begins_wider, read_narrower, many_step, many_read}
 use Rattle.text_grammar.proofs.Items.{flag_read, flag_begins, mark_step, word_step, name_step, name_read, number_step, number_read, symbol_apart, word_apart, pick_step, pick_read}

@@ -1,10 +1,10 @@
 -- How the code's steps read the rows.
-use Rattle.std.proofs.Common.{◌≡◌, ℕ, ◌<◌, ◌≤◌, Bool, true, false, ◌&&◌, ◌||◌, List, [], ◌∷◌, length, drop, Result, Ok, Err, refl, sym, ap, ◌∙◌, arith}
+use Rattle.std.proofs.Common.{◌≡◌, ℕ, ◌<◌, ◌≤◌, Bool, true, false, ◌&&◌, ◌||◌, List, [], ◌∷◌, length, drop, Ok, Err, refl, arith}
 use Rattle.std.specs.Prelude.{◌==◌}
 use Rattle.text_grammar.specs.declared.item.Item.{Item}
 use Rattle.text_grammar.specs.declared.fault.ReadError.{ReadError}
 use Rattle.text_grammar.specs.declared.fault.ReadError.TheVariants as errors
-use Rattle.text_grammar.specs.Part.{Outcome, Part, Fails, ◌>>=◌, kind_at, starts, one_by, many, many_at, whole, ends}
+use Rattle.text_grammar.specs.Part.{Part, Fails, kind_at, starts, one_by, many, many_at, whole}
 use Rattle.text_grammar.specs.Terminals.{is_word, column_of, line_of}
 use Rattle.fir_read.specs.Grammar.{begins_row, first_word}
 

@@ -1,12 +1,12 @@
 -- The circuit that is found is the one that the text spells.
-use Rattle.std.proofs.Common.{◌≡◌, ℕ, Option, Some, None, List, [], Result, Ok, Err, refl, sym, subst}
+use Rattle.std.proofs.Common.{◌≡◌, ℕ, Some, None, List, Ok, Err, refl, subst}
 use Rattle.text_grammar.specs.declared.item.Item.{Item}
 use Rattle.text_grammar.specs.declared.fault.Kind.{Kind}
 use Rattle.text_grammar.specs.declared.fault.ReadError.{ReadError}
 use Rattle.text_grammar.specs.declared.fault.ReadError.TheVariants as errors
-use Rattle.text_grammar.specs.Part.{Outcome, Part, Fails, whole}
+use Rattle.text_grammar.specs.Part.{Outcome, Fails, whole}
 use Rattle.text_grammar.specs.Terminals.{at}
-use Rattle.text_grammar.proofs.Laws.{Step, Same, ok_parts}
+use Rattle.text_grammar.proofs.Laws.{Same}
 use Rattle.text_grammar.proofs.Whole.{whole_reads, whole_spells}
 use Rattle.fir_read.specs.declared.tree.Circuit.{Circuit}
 use Rattle.fir_read.specs.Lex.{items_of}

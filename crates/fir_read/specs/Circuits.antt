@@ -1,5 +1,5 @@
 -- Which circuit a text spells.
-use Rattle.std.specs.Prelude.{◌≡◌, ◌↔◌, ℕ, Option, Some, None, List, Result, Ok, Err}
+use Rattle.std.specs.Prelude.{◌≡◌, ◌↔◌, ℕ, Option, Some, None, List, Ok, Err}
 use Rattle.text_grammar.specs.Part.{Outcome, whole}
 use Rattle.fir_read.specs.declared.tree.Circuit.{Circuit}
 use Rattle.fir_read.specs.declared.fault.FormFault.{FormFault}

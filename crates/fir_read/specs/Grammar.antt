@@ -1,5 +1,5 @@
 -- The grammar of the first form. Each row is a line: its first word stands at a column, and it takes the line's end.
-use Rattle.std.specs.Prelude.{ℕ, Bool, true, false, ◌&&◌, ◌||◌, if◌then◌else◌, Option, Some, None, List, [], ◌∷◌, codes}
+use Rattle.std.specs.Prelude.{ℕ, Bool, true, false, ◌&&◌, ◌||◌, List, codes}
 use Rattle.std.specs.Str.{bytes_eq}
 use Rattle.text_grammar.specs.declared.item.Item.{Item}
 use Rattle.text_grammar.specs.declared.item.Symbol.TheVariants as s

@@ -1,5 +1,5 @@
-pub mod FirstForm
 pub mod Lex
 pub mod Grammar
 pub mod Circuits
+pub mod FirstForm
 pub mod Examples

@@ -10,7 +10,7 @@ pub enum FormFault {
     /// It isn't in the first form.
     #[error("not in the first form")]
     NotInForm,
-    /// Memory ran out; nothing is said of the text.
+    /// There wasn't enough memory to tell.
     #[error("out of memory")]
     Memory(Memory),
 }

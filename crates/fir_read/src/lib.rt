@@ -1,9 +1,11 @@
-//! The circuit text in the first form: its tree and its reading.
+//! The circuit text in the first form: its tree, its reading and its rules.
 //!
 //! A text is read in two steps. `lex` cuts it into items, line by line, and `rows` reads the items by the grammar. Both
 //! have definitions that the code does not share: `items_of` (`specs/Lex.antt`) and the parts of a grammar in
 //! `specs/Grammar.antt`, which say what spells a circuit and how it is found. `specs/Circuits.antt` joins them to
 //! `spells_circuit` and `circuit_of`, and `texts_spell_once` is the law that the two agree.
+//!
+//! The rules on names and widths, `first_form` (`specs/FirstForm.antt`), are over the tree and not judged by `read`.
 #![tactic(auto)]
 
 mod examples;

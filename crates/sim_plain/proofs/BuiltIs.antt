@@ -118,7 +118,7 @@ sound ports body h =
       distinct = sym (ap are_distinct (table_names 0 ports)) ∙ e.0;
       few = subst (λ (n : ℕ). n ≤ 256) (sym (length-table 0 ports)) (leb-true (length ports) 256 f.0);
       wide = table_widths 0 ports;
-      each = length-equations (table_from 0 ports) body 0 ports
+      each = length-equations (table_from 0 ports) body 0 ports;
     }
 
 draft_some : (b : Bool) (x d : DraftValue) → (if b then Some x else None) ≡ Some d → (b ≡ true) × (x ≡ d)

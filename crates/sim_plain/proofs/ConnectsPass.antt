@@ -18,7 +18,7 @@ use Rattle.sim_plain.specs.declared.equation.Equation.{Equation}
 use Rattle.sim_plain.specs.declared.equation.Equation.TheVariants.{Input, Copy, Add}
 use Rattle.sim_plain.specs.DesignOf.{port_info, table_from, signal_of, equation_of, driver}
 use Rattle.sim_plain.specs.Steps.{DraftValue, only_input, input_named, checked_sum, checked_equation, with_equation, with_connect, with_connects}
-use Rattle.sim_plain.proofs.Tests.{equal_names}
+use Rattle.sim_plain.proofs.BoolFacts.{equal_names}
 use Rattle.sim_plain.proofs.PortsPass.{names}
 
 -- What the table says of a name is what the tree says of it.
@@ -146,7 +146,7 @@ get_at {X} f d n j k (p ∷ ps) i e s = go (bytes_eq n p.name) refl k e s (λ l 
           port = a.port;
           found = ap (λ b. cond b (Some p) (port_of ps n)) t ∙ a.found;
           same = a.same;
-          item = a.item
+          item = a.item;
         }
 
 -- One more connect.
@@ -194,7 +194,7 @@ abbrev pub connected : List Port → List Stmt → DraftValue
 connected ports done = record {
   ports = table_from 0 ports;
   widths = map (λ (p : Port). p.width) ports;
-  equations = map (entry (table_from 0 ports) done) ports
+  equations = map (entry (table_from 0 ports) done) ports;
 }
 
 is_none-None : {X : Type 0} (o : Option X) → is_none o ≡ true → o ≡ None

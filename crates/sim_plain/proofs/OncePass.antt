@@ -12,7 +12,7 @@ use Rattle.fir_read.specs.declared.tree.Stmt.{Stmt}
 use Rattle.fir_read.specs.declared.tree.Expr.{Expr}
 use Rattle.fir_read.specs.FirstForm.{sink_of, source_of, words, port_of, is_input, is_output, is_narrow}
 use Rattle.sim_plain.specs.DesignOf.{driver}
-use Rattle.sim_plain.proofs.Tests.{equal_names, name_same, list_all_and, list_all_same, same_test}
+use Rattle.sim_plain.proofs.BoolFacts.{equal_names, name_same, list_all_and, list_all_same, same_test}
 use Rattle.sim_plain.proofs.ConnectsPass.{is_okay, is_new, connects_fit, reads_well}
 
 -- how many connects have this sink

@@ -13,7 +13,7 @@ use Rattle.sim_plain.specs.declared.equation.Equation.{Equation}
 use Rattle.sim_plain.specs.declared.equation.Equation.TheVariants.{Input}
 use Rattle.sim_plain.specs.DesignOf.{port_info, table_from}
 use Rattle.sim_plain.specs.Steps.{DraftValue, has_room_for, with_port, with_ports, empty_draft}
-use Rattle.sim_plain.proofs.Tests.{name_sym, list_all_and, list_all_same, list_all_always}
+use Rattle.sim_plain.proofs.BoolFacts.{name_sym, list_all_and, list_all_same, list_all_always}
 
 abbrev pub names : List Port → List (List ℕ)
 names ps = map (λ (p : Port). p.name) ps
@@ -36,14 +36,14 @@ abbrev pub extended : DraftValue → List Port → DraftValue
 extended d ps = record {
   ports = d.ports ++ table_from (length d.ports) ps;
   widths = d.widths ++ map (λ (p : Port). p.width) ps;
-  equations = d.equations ++ map first_equation ps
+  equations = d.equations ++ map first_equation ps;
 }
 
 abbrev pub next : DraftValue → Port → DraftValue
 next d p = record {
   ports = d.ports ++ (p.name, port_info (length d.ports) p) ∷ [];
   widths = d.widths ++ p.width ∷ [];
-  equations = d.equations ++ first_equation p ∷ []
+  equations = d.equations ++ first_equation p ∷ [];
 }
 
 none_last : (b : Bool) (i : PortInfo) → is_none (cond b (Some i) None) ≡ not b

@@ -46,7 +46,7 @@ abbrev pub net_of : Circuit → DesignValue
 net_of c = record {
   name = c.name;
   ports = table_from 0 c.module.ports;
-  equations = map (port_equation (table_from 0 c.module.ports) c.module.body) c.module.ports
+  equations = map (port_equation (table_from 0 c.module.ports) c.module.body) c.module.ports;
 }
 
 -- the design of a circuit: none exactly where it isn't in the first form

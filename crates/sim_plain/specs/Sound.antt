@@ -16,3 +16,9 @@ pub record IsSound (ports : List (List ℕ × PortInfo)) (widths : List ℕ) (eq
   pub few : length ports ≤ 256
   pub wide : widths ≡ map (λ (p : List ℕ × PortInfo). p.1.width) ports
   pub each : length equations ≡ length ports
+
+-- what a port of place k says: its signal is k, it isn't signed, and its width is at most 128
+pub record IsPortAt (k : ℕ) (i : PortInfo) : Type 0 where
+  pub signal : i.signal.0 ≡ k
+  pub unsigned : i.signed ≡ false
+  pub narrow : i.width ≤ 128

@@ -32,7 +32,7 @@ with_port d p =
     then Some (record {
       ports = d.ports ++ (p.name, port_info (length d.ports) p) ∷ [];
       widths = d.widths ++ p.width ∷ [];
-      equations = d.equations ++ (if p.output then None else Some Input) ∷ []
+      equations = d.equations ++ (if p.output then None else Some Input) ∷ [];
     })
     else None
 

@@ -1,9 +1,12 @@
 //! A design: what is simulated.
 //!
 //! It keeps the circuit's name, the table of its ports, and the net, whose signals are the ports by their places.
-ghost use Rattle.std.specs.Prelude.{◌≡◌, ℕ, ◌≤◌, ◌<◌, List, length, Some, slice_get, map};
+ghost use Rattle.std.specs.Prelude.{◌≡◌, ℕ, ◌≤◌, ◌<◌, List, length, Some, slice_get, map, true};
 ghost use Rattle.sim_plain.specs.Settled.{DesignValue, net_in};
-ghost use Rattle.sim_plain.specs.Sound.{IsSound};
+ghost use Rattle.net_core.specs.declared.ports.PortInfo.{PortInfo};
+ghost use Rattle.net_core.specs.Ports.{port_named};
+ghost use Rattle.fir_read.specs.FirstForm.{are_distinct};
+ghost use Rattle.sim_plain.specs.Sound.{IsSound, IsPortAt};
 ghost use Rattle.sim_plain.specs.Seen.{net_seen};
 
 use crate::draft::Draft;
@@ -27,7 +30,10 @@ impl Model for Design {
 
     ghost Value = { DesignValue };
 
-    ghost use Rattle.sim_plain.specs.Sound.{IsSound};
+    ghost use Rattle.net_core.specs.declared.ports.PortInfo.{PortInfo};
+    ghost use Rattle.net_core.specs.Ports.{port_named};
+    ghost use Rattle.fir_read.specs.FirstForm.{are_distinct};
+    ghost use Rattle.sim_plain.specs.Sound.{IsSound, IsPortAt};
 
     ghost view = { λ d. record { name = d.name; ports = d.ports; equations = d.net.equations.items } };
 
@@ -54,9 +60,15 @@ impl Design {
         &self.name
     }
 
-    /// The ports by name and by place. A port's signal is its place; there are at most 256, each of at most 128 bits.
+    /// The ports by name and by place. A port's signal is its place; there are at most 256, each of type UInt with at
+    /// most 128 bits, and no two have the same name.
     pub fn ports(&self) -> &PortTable
         ensures ports { result.now ≡ self.now.ports }
+        ensures few { length result.now ≤ 256 }
+        ensures distinct { are_distinct (map (λ (p : List ℕ × PortInfo). p.0) result.now) ≡ true }
+        ensures at { (k : ℕ) (p : List ℕ × PortInfo) → slice_get result.now k ≡ Some p → IsPortAt k p.1 }
+        ensures within { (n : List ℕ) (i : PortInfo) → port_named n result.now ≡ Some i → i.signal.0 < length result.now }
+        ensures equations { length self.now.equations ≡ length result.now }
     {
         &self.ports
     }

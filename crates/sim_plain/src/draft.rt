@@ -14,6 +14,7 @@ use std::alloc::Global;
 use tb_base::{Memory, Width};
 
 const MOST_PORTS: usize = 256;
+
 const MOST_BITS: u8 = 128;
 
 /// The ports, their widths, and the equation of each port that has one.
@@ -56,7 +57,11 @@ fn equation_of(ports: &PortTable, value: &Expr) -> Option<Equation>
         Expr::Add(a, b) => {
             let a = input_named(ports, a.bytes())?;
             let b = input_named(ports, b.bytes())?;
-            if a.width.max(b.width) < MOST_BITS { Some(Equation::Add(a.signal, b.signal)) } else { None }
+            if a.width.max(b.width) < MOST_BITS {
+                Some(Equation::Add(a.signal, b.signal))
+            } else {
+                None
+            }
         }
     }
 }
@@ -105,9 +110,15 @@ impl Draft {
             signed: false,
             width: width.get(),
         };
-        let equation = if port.output { None } else { Some(Equation::Input) };
+        let equation = if port.output {
+            None
+        } else {
+            Some(Equation::Input)
+        };
         let name = port.name.copy(alloc).map_err(FormFault::Memory)?;
-        self.ports.add(name.into_vec(), info).map_err(FormFault::Memory)?;
+        self.ports
+            .add(name.into_vec(), info)
+            .map_err(FormFault::Memory)?;
         push(&mut self.widths, width).map_err(FormFault::Memory)?;
         push(&mut self.equations, equation).map_err(FormFault::Memory)?;
         Ok(())
@@ -121,7 +132,11 @@ impl Draft {
         let Stmt::Connect { sink, value, .. } = statement;
         let port = self.ports.find(sink.bytes())?;
         let equation = equation_of(&self.ports, value)?;
-        set_equation(self.equations.as_mut_slice(), port.signal.0 as usize, equation)?;
+        set_equation(
+            self.equations.as_mut_slice(),
+            port.signal.0 as usize,
+            equation,
+        )?;
         Some(())
     }
 }

@@ -61,8 +61,7 @@ impl PlainEngine {
     /// A clock edge. A circuit of the first form has no registers, so nothing changes.
     pub fn edge(&mut self)
         ensures { self.new ≡ self.old }
-    {
-    }
+    {}
 
     /// The number of an input, and 0 past the last signal.
     pub fn input(&self, input: Signal) -> u128

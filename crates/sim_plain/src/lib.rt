@@ -5,7 +5,6 @@
 //! and works out a signal's value when it is asked for it.
 #![tactic(auto)]
 
-
 mod design;
 mod draft;
 mod engine;
@@ -13,7 +12,10 @@ mod equation;
 mod net;
 mod passes;
 
-pub use passes::build;
 pub use design::Design;
 pub use engine::PlainEngine;
 pub use equation::Equation;
+pub use passes::build;
+
+#[cfg(test)]
+mod tests;
