@@ -1,6 +1,6 @@
 -- The design that the calls make is the one of the definition.
 use Rattle.std.proofs.Common.{◌≡◌, ◌∙◌, ℕ, zero, suc, ◌+◌, ◌≤◌, ◌<◌, Bool, true, false, not, ◌&&◌, ◌||◌, if◌then◌else◌, List, [], ◌∷◌, ◌++◌, length, map, Option, Some, None, refl, ap, sym, subst, arith, nat_le}
-use Rattle.std.specs.Prelude.{is_none, option_and_then, option_map}
+use Rattle.std.specs.Prelude.{is_none, is_some, option_and_then, option_map}
 use Rattle.std.specs.Option.{option_map_or}
 use Rattle.std.specs.List.{list_all}
 use Rattle.std.specs.Str.{bytes_eq}
@@ -170,3 +170,11 @@ pub build_undriven : (c : Circuit) (d : DraftValue) → draft_of c.module ≡ So
 build_undriven c d e f =
     sym (built_is c)
     ∙ none_if (has_one_name c) (option_and_then (finished c.name) (draft_of c.module)) (ap (option_and_then (finished c.name)) e ∙ ap (option_map (λ (ys : List Equation). record { name = c.name; ports = d.ports; equations = ys })) f)
+
+is_some_if : {X : Type 0} (b : Bool) (x : X) → is_some (if b then Some x else None) ≡ b
+is_some_if true x = refl
+is_some_if false x = refl
+
+pub some_design : (c : Circuit) → is_some (design_of c) ≡ first_form c
+unfolding design_of
+some_design c = is_some_if (first_form c) (net_of c)
