@@ -1,9 +1,8 @@
 -- The design that the calls make is the one of the definition.
-use Rattle.std.proofs.Common.{◌≡◌, ◌∙◌, ℕ, zero, suc, ◌+◌, ◌≤◌, ◌<◌, Bool, true, false, not, ◌&&◌, ◌||◌, if◌then◌else◌, List, [], ◌∷◌, ◌++◌, length, map, Option, Some, None, refl, ap, sym, subst, arith, nat_le}
+use Rattle.std.proofs.Common.{◌≡◌, ◌∙◌, ℕ, suc, ◌≤◌, Bool, true, false, not, ◌&&◌, ◌||◌, if◌then◌else◌, List, [], ◌∷◌, length, map, Option, Some, None, refl, ap, sym, subst, nat_le}
 use Rattle.std.specs.Prelude.{is_none, is_some, option_and_then, option_map}
 use Rattle.std.specs.Option.{option_map_or}
 use Rattle.std.specs.List.{list_all}
-use Rattle.std.specs.Str.{bytes_eq}
 use Rattle.std.proofs.lemmas.Bool.{and_parts, leb-true}
 use Rattle.net_core.specs.declared.ports.PortInfo.{PortInfo}
 use Rattle.fir_read.specs.declared.tree.Circuit.{Circuit}
@@ -13,13 +12,13 @@ use Rattle.fir_read.specs.declared.tree.Stmt.{Stmt}
 use Rattle.fir_read.specs.declared.tree.Expr.{Expr}
 use Rattle.fir_read.specs.FirstForm.{are_distinct, has_one_name, has_distinct_ports, has_few_ports, has_narrow_ports, reads_inputs, drives_outputs, drives_each_once, has_narrow_sums, first_form}
 use Rattle.sim_plain.specs.declared.equation.Equation.{Equation}
-use Rattle.sim_plain.specs.declared.equation.Equation.TheVariants.{Input, Copy, Add}
+use Rattle.sim_plain.specs.declared.equation.Equation.TheVariants.{Input}
 use Rattle.sim_plain.specs.Settled.{DesignValue}
 use Rattle.sim_plain.specs.Sound.{AreInPlace, IsSound}
 use Rattle.sim_plain.specs.DesignOf.{table_from, equation_of, driver, port_equation, net_of, design_of}
-use Rattle.sim_plain.specs.Steps.{DraftValue, with_ports, with_connects, empty_draft, draft_of, all_some, finished, built}
+use Rattle.sim_plain.specs.Steps.{DraftValue, with_connects, draft_of, all_some, finished, built}
 use Rattle.sim_plain.proofs.PortsPass.{names, narrow, ports_fit, first_draft, ports_pass}
-use Rattle.sim_plain.proofs.ConnectsPass.{is_okay, connects_fit, connected, entry, with_connects_is}
+use Rattle.sim_plain.proofs.ConnectsPass.{connects_fit, connected, entry, with_connects_is}
 use Rattle.sim_plain.proofs.OncePass.{is_driven, is_once, once_pass, okay_parts}
 
 by_ports : (ports : List Port) (body : List Stmt) (b : Bool) → ports_fit ports ≡ b → option_and_then (λ d. with_connects d body) (if b then Some (first_draft ports) else None) ≡ (if b && connects_fit ports [] body then Some (connected ports body) else None)
