@@ -1,9 +1,8 @@
 -- The design that the calls make is the one of the definition.
-use Rattle.std.proofs.Common.{◌≡◌, ◌∙◌, ℕ, zero, suc, ◌+◌, ◌≤◌, ◌<◌, Bool, true, false, not, ◌&&◌, ◌||◌, if◌then◌else◌, List, [], ◌∷◌, ◌++◌, length, map, Option, Some, None, refl, ap, sym, subst, arith, nat_le}
-use Rattle.std.specs.Prelude.{is_none, option_and_then, option_map}
+use Rattle.std.proofs.Common.{◌≡◌, ◌∙◌, ℕ, suc, ◌≤◌, Bool, true, false, not, ◌&&◌, ◌||◌, if◌then◌else◌, List, [], ◌∷◌, length, map, Option, Some, None, refl, ap, sym, subst, nat_le}
+use Rattle.std.specs.Prelude.{is_none, is_some, option_and_then, option_map}
 use Rattle.std.specs.Option.{option_map_or}
 use Rattle.std.specs.List.{list_all}
-use Rattle.std.specs.Str.{bytes_eq}
 use Rattle.std.proofs.lemmas.Bool.{and_parts, leb-true}
 use Rattle.net_core.specs.declared.ports.PortInfo.{PortInfo}
 use Rattle.fir_read.specs.declared.tree.Circuit.{Circuit}
@@ -13,13 +12,13 @@ use Rattle.fir_read.specs.declared.tree.Stmt.{Stmt}
 use Rattle.fir_read.specs.declared.tree.Expr.{Expr}
 use Rattle.fir_read.specs.FirstForm.{are_distinct, has_one_name, has_distinct_ports, has_few_ports, has_narrow_ports, reads_inputs, drives_outputs, drives_each_once, has_narrow_sums, first_form}
 use Rattle.sim_plain.specs.declared.equation.Equation.{Equation}
-use Rattle.sim_plain.specs.declared.equation.Equation.TheVariants.{Input, Copy, Add}
+use Rattle.sim_plain.specs.declared.equation.Equation.TheVariants.{Input}
 use Rattle.sim_plain.specs.Settled.{DesignValue}
 use Rattle.sim_plain.specs.Sound.{AreInPlace, IsSound}
 use Rattle.sim_plain.specs.DesignOf.{table_from, equation_of, driver, port_equation, net_of, design_of}
-use Rattle.sim_plain.specs.Steps.{DraftValue, with_ports, with_connects, empty_draft, draft_of, all_some, finished, built}
+use Rattle.sim_plain.specs.Steps.{DraftValue, with_connects, draft_of, all_some, finished, built}
 use Rattle.sim_plain.proofs.PortsPass.{names, narrow, ports_fit, first_draft, ports_pass}
-use Rattle.sim_plain.proofs.ConnectsPass.{is_okay, connects_fit, connected, entry, with_connects_is}
+use Rattle.sim_plain.proofs.ConnectsPass.{connects_fit, connected, entry, with_connects_is}
 use Rattle.sim_plain.proofs.OncePass.{is_driven, is_once, once_pass, okay_parts}
 
 by_ports : (ports : List Port) (body : List Stmt) (b : Bool) → ports_fit ports ≡ b → option_and_then (λ d. with_connects d body) (if b then Some (first_draft ports) else None) ≡ (if b && connects_fit ports [] body then Some (connected ports body) else None)
@@ -170,3 +169,11 @@ pub build_undriven : (c : Circuit) (d : DraftValue) → draft_of c.module ≡ So
 build_undriven c d e f =
     sym (built_is c)
     ∙ none_if (has_one_name c) (option_and_then (finished c.name) (draft_of c.module)) (ap (option_and_then (finished c.name)) e ∙ ap (option_map (λ (ys : List Equation). record { name = c.name; ports = d.ports; equations = ys })) f)
+
+is_some_if : {X : Type 0} (b : Bool) (x : X) → is_some (if b then Some x else None) ≡ b
+is_some_if true x = refl
+is_some_if false x = refl
+
+pub some_design : (c : Circuit) → is_some (design_of c) ≡ first_form c
+unfolding design_of
+some_design c = is_some_if (first_form c) (net_of c)

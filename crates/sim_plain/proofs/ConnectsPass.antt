@@ -1,11 +1,11 @@
 -- The pass over the connects: it succeeds exactly where each keeps the rules and no two share a sink, and then gives
 -- each port its equation.
-use Rattle.std.proofs.Common.{◌≡◌, ◌∙◌, ℕ, zero, suc, ◌+◌, ◌≤◌, ◌<◌, max, Bool, true, false, not, ◌&&◌, if◌then◌else◌, List, [], ◌∷◌, ◌++◌, length, map, Option, Some, None, refl, ap, sym, subst, cond, arith, append_assoc, append-nil, zero-add, nat_le, nat_lt}
+use Rattle.std.proofs.Common.{◌≡◌, ◌∙◌, ℕ, zero, suc, ◌+◌, ◌≤◌, max, Bool, true, false, not, ◌&&◌, if◌then◌else◌, List, [], ◌∷◌, ◌++◌, map, Option, Some, None, refl, ap, sym, cond, arith, append_assoc, append-nil, zero-add, nat_le, nat_lt}
 use Rattle.std.specs.Prelude.{is_none, option_and_then, option_map, slice_set, slice_index_or, find}
 use Rattle.std.specs.Option.{option_map_or}
 use Rattle.std.specs.List.{list_all}
 use Rattle.std.specs.Str.{bytes_eq}
-use Rattle.std.proofs.lemmas.Bool.{and_parts, and_right, and_left, not-true}
+use Rattle.std.proofs.lemmas.Bool.{and_parts, not-true}
 use Rattle.std.proofs.lemmas.Bool.Decides.{nat_tests}
 use Rattle.net_core.specs.declared.ports.PortInfo.{PortInfo}
 use Rattle.net_core.specs.Ports.{port_named}
@@ -13,11 +13,11 @@ use Rattle.fir_read.specs.declared.tree.Port.{Port}
 use Rattle.fir_read.specs.declared.tree.Stmt.{Stmt}
 use Rattle.fir_read.specs.declared.tree.Expr.{Expr}
 use Rattle.fir_read.specs.declared.tree.Expr.TheVariants as word
-use Rattle.fir_read.specs.FirstForm.{are_distinct, sink_of, source_of, words, port_of, is_input, is_output, is_narrow, written_width}
+use Rattle.fir_read.specs.FirstForm.{are_distinct, sink_of, source_of, words, port_of, is_input, is_output, is_narrow}
 use Rattle.sim_plain.specs.declared.equation.Equation.{Equation}
 use Rattle.sim_plain.specs.declared.equation.Equation.TheVariants.{Input, Copy, Add}
-use Rattle.sim_plain.specs.DesignOf.{port_info, table_from, signal_of, equation_of, driver}
-use Rattle.sim_plain.specs.Steps.{DraftValue, only_input, input_named, checked_sum, checked_equation, with_equation, with_connect, with_connects}
+use Rattle.sim_plain.specs.DesignOf.{port_info, table_from, equation_of, driver}
+use Rattle.sim_plain.specs.Steps.{DraftValue, only_input, checked_sum, checked_equation, with_equation, with_connect, with_connects}
 use Rattle.sim_plain.proofs.BoolFacts.{equal_names}
 use Rattle.sim_plain.proofs.PortsPass.{names}
 

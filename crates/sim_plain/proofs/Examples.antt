@@ -1,14 +1,11 @@
 -- Worked examples: the adder, its design and its values, and circuits that each break one rule.
-use Rattle.std.proofs.Common.{◌≡◌, ℕ, Bool, true, false, List, [], ◌∷◌, Option, Some, None, refl}
+use Rattle.std.proofs.Common.{◌≡◌, ℕ, true, false, List, [], ◌∷◌, Some, None, refl}
 use Rattle.std.specs.Prelude.{codes}
 use Rattle.tb_base.specs.Word.{Word}
-use Rattle.net_core.specs.declared.ports.Signal.{Signal}
 use Rattle.fir_read.specs.declared.tree.Circuit.{Circuit}
-use Rattle.fir_read.specs.declared.tree.Module.{Module}
 use Rattle.fir_read.specs.declared.tree.Port.{Port}
 use Rattle.fir_read.specs.declared.tree.Stmt.{Stmt}
 use Rattle.fir_read.specs.declared.tree.Stmt.TheVariants.{Connect}
-use Rattle.fir_read.specs.declared.tree.Expr.{Expr}
 use Rattle.fir_read.specs.declared.tree.Expr.TheVariants as word
 use Rattle.fir_read.specs.FirstForm.{first_form}
 use Rattle.sim_plain.specs.declared.equation.Equation.TheVariants.{Input, Copy, Add}

@@ -1,6 +1,6 @@
 -- What the passes test is what the rules on connects ask.
-use Rattle.std.proofs.Common.{◌≡◌, ◌∙◌, ℕ, ◌+◌, ◌≤◌, ◌==◌, Bool, true, false, not, ◌&&◌, ◌||◌, if◌then◌else◌, List, [], ◌∷◌, ◌++◌, map, Option, Some, None, refl, ap, sym, subst, cond, arith, append_assoc, append-nil, zero-add}
-use Rattle.std.specs.Prelude.{is_none, option_map, find, count_by, sum_by}
+use Rattle.std.proofs.Common.{◌≡◌, ◌∙◌, ℕ, ◌+◌, ◌≤◌, ◌==◌, Bool, true, false, not, ◌&&◌, ◌||◌, List, [], ◌∷◌, ◌++◌, Option, Some, refl, ap, sym, subst, cond, arith, append_assoc, append-nil, zero-add}
+use Rattle.std.specs.Prelude.{is_none, option_map, find, count_by}
 use Rattle.std.specs.Option.{option_map_or}
 use Rattle.std.specs.List.{list_all}
 use Rattle.std.specs.Str.{bytes_eq}
@@ -9,7 +9,6 @@ use Rattle.std.proofs.lemmas.List.Sums.{sum_by-cons, sum_by-append}
 use Rattle.std.proofs.lemmas.Bool.Decides.{nat_tests}
 use Rattle.fir_read.specs.declared.tree.Port.{Port}
 use Rattle.fir_read.specs.declared.tree.Stmt.{Stmt}
-use Rattle.fir_read.specs.declared.tree.Expr.{Expr}
 use Rattle.fir_read.specs.FirstForm.{sink_of, source_of, words, port_of, is_input, is_output, is_narrow}
 use Rattle.sim_plain.specs.DesignOf.{driver}
 use Rattle.sim_plain.proofs.BoolFacts.{equal_names, name_same, list_all_and, list_all_same, same_test}

@@ -3,7 +3,7 @@ use Rattle.std.proofs.Common.{◌≡◌, ◌∙◌, ℕ, suc, ◌+◌, ◌≤◌
 use Rattle.std.specs.Prelude.{is_none, option_and_then}
 use Rattle.std.specs.List.{list_all}
 use Rattle.std.specs.Str.{bytes_eq}
-use Rattle.std.proofs.lemmas.Bool.{and_parts, and_cases, leb-true, ltb-true, leb-false, ltb-false, le-leb, lt-leb}
+use Rattle.std.proofs.lemmas.Bool.{and_parts, ltb-true, ltb-false, le-leb, lt-leb}
 use Rattle.std.proofs.lemmas.List.Folds.{list_all-map}
 use Rattle.net_core.specs.declared.ports.PortInfo.{PortInfo}
 use Rattle.net_core.specs.Ports.{port_named}
@@ -12,7 +12,7 @@ use Rattle.fir_read.specs.FirstForm.{are_distinct}
 use Rattle.sim_plain.specs.declared.equation.Equation.{Equation}
 use Rattle.sim_plain.specs.declared.equation.Equation.TheVariants.{Input}
 use Rattle.sim_plain.specs.DesignOf.{port_info, table_from}
-use Rattle.sim_plain.specs.Steps.{DraftValue, has_room_for, with_port, with_ports, empty_draft}
+use Rattle.sim_plain.specs.Steps.{DraftValue, has_room_for, with_ports, empty_draft}
 use Rattle.sim_plain.proofs.BoolFacts.{name_sym, list_all_and, list_all_same, list_all_always}
 
 abbrev pub names : List Port → List (List ℕ)

@@ -1,5 +1,5 @@
 -- The design of a circuit in the first form, by the names in its tree.
-use Rattle.std.specs.Prelude.{ℕ, suc, Bool, true, false, not, if◌then◌else◌, List, [], ◌∷◌, map, Option, Some, None, find, option_map}
+use Rattle.std.specs.Prelude.{ℕ, suc, false, not, if◌then◌else◌, List, [], ◌∷◌, map, Option, Some, None, find, option_map}
 use Rattle.std.specs.Option.{option_map_or}
 use Rattle.std.specs.Str.{bytes_eq}
 use Rattle.net_core.specs.declared.ports.PortInfo.{PortInfo}

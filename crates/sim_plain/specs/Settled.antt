@@ -1,10 +1,9 @@
 -- Settled values of a small net.
-use Rattle.std.specs.Prelude.{ℕ, ℤ, pos, Bool, true, false, List, [], ◌∷◌, map, Option, unwrap_or, slice_index, slice_index_or}
+use Rattle.std.specs.Prelude.{ℕ, pos, false, List, [], ◌∷◌, map, unwrap_or, slice_index, slice_index_or}
 use Rattle.tb_base.specs.Word.{Word, cut, value_of}
 use Rattle.tb_base.specs.Row.{applied, no_word}
 use Rattle.tb_base.specs.declared.op.Op.TheVariants.{Add as AddOp}
 use Rattle.net_core.specs.declared.ports.PortInfo.{PortInfo}
-use Rattle.net_core.specs.declared.ports.Signal.{Signal}
 use Rattle.sim_plain.specs.declared.equation.Equation.{Equation}
 use Rattle.sim_plain.specs.declared.equation.Equation.TheVariants.{Input, Copy, Add}
 

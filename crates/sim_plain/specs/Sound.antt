@@ -1,5 +1,5 @@
 -- What holds of each design.
-use Rattle.std.specs.Prelude.{◌≡◌, ◌≤◌, ◌<◌, ℕ, suc, Bool, true, false, List, [], ◌∷◌, map, length}
+use Rattle.std.specs.Prelude.{◌≡◌, ◌≤◌, ℕ, suc, true, false, List, [], ◌∷◌, map, length}
 use Rattle.net_core.specs.declared.ports.PortInfo.{PortInfo}
 use Rattle.fir_read.specs.FirstForm.{are_distinct}
 use Rattle.sim_plain.specs.declared.equation.Equation.{Equation}

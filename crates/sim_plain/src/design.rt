@@ -1,6 +1,7 @@
 //! A design: what is simulated.
 //!
-//! It keeps the circuit's name, the table of its ports, and the net, whose signals are the ports by their places.
+//! It keeps the circuit's name, the table of its ports, and the net, whose signals are the ports by their places. So
+//! the table and the two lists of the net have one length, and the net's widths are those of the table.
 ghost use Rattle.std.specs.Prelude.{◌≡◌, ℕ, ◌≤◌, ◌<◌, List, length, Some, slice_get, map, true};
 ghost use Rattle.sim_plain.specs.Settled.{DesignValue, net_in};
 ghost use Rattle.net_core.specs.declared.ports.PortInfo.{PortInfo};
@@ -30,10 +31,7 @@ impl Model for Design {
 
     ghost Value = { DesignValue };
 
-    ghost use Rattle.net_core.specs.declared.ports.PortInfo.{PortInfo};
-    ghost use Rattle.net_core.specs.Ports.{port_named};
-    ghost use Rattle.fir_read.specs.FirstForm.{are_distinct};
-    ghost use Rattle.sim_plain.specs.Sound.{IsSound, IsPortAt};
+    ghost use Rattle.sim_plain.specs.Sound.{IsSound};
 
     ghost view = { λ d. record { name = d.name; ports = d.ports; equations = d.net.equations.items } };
 

@@ -9,12 +9,14 @@ mod design;
 mod draft;
 mod engine;
 mod equation;
+mod laws;
 mod net;
 mod passes;
 
 pub use design::Design;
 pub use engine::PlainEngine;
 pub use equation::Equation;
+pub use laws::design_where_rules_hold;
 pub use passes::build;
 
 #[cfg(test)]

@@ -1,4 +1,4 @@
-use Rattle.std.proofs.Common.{◌≡◌, rules}
+use Rattle.std.proofs.Common.{rules}
 use Rattle.sim_plain.specs.Settled.{settled_in}
 use Rattle.sim_plain.proofs.net.Net.value.Goals as goal
 
