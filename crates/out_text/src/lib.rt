@@ -6,3 +6,6 @@ mod lines;
 
 pub use examples::the_reports_work_out;
 pub use lines::report;
+
+#[cfg(test)]
+mod tests;
