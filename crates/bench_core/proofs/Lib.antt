@@ -1,3 +1,4 @@
 pub mod Checked
 pub mod Fitting
+pub mod Outcomes
 pub mod Running

@@ -24,7 +24,7 @@ runs_begun d acts net w n e = record {
   time = let at : w.time ≡ 0 = ap (λ (v : World). v.time) e in omega arith;
 }
 
-counted_once : (net : NetValue) (w : World) (act : Act) → (acted net w act).actions ≡ w.actions + 1
+pub counted_once : (net : NetValue) (w : World) (act : Act) → (acted net w act).actions ≡ w.actions + 1
 counted_once net w (Poke line port raw) = refl
 counted_once net w (Peek line port) = refl
 counted_once net w (Expect line port wanted) = either w (number_at net w port == wanted) (observation net w line port (Some wanted))

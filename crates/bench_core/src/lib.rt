@@ -8,8 +8,13 @@
 
 mod act;
 mod examples;
+mod laws;
 mod run;
 
 pub use act::{Act, TestFault, check_test};
 pub use examples::{the_acts_work_out, the_runs_work_out};
+pub use laws::runs_tell_failures;
 pub use run::{Observation, Outcome, Run, run_first};
+
+#[cfg(test)]
+mod tests;

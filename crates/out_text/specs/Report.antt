@@ -25,22 +25,37 @@ abbrev pub wanted_text : Option ℕ → List ℕ
 wanted_text None = []
 wanted_text (Some number) = codes " wanted " ++ decimal number
 
--- a record: `0 / 3 peek out = 7`, or `0 / 1 expect out = 0 wanted 1`
-abbrev pub record_text : List (List ℕ × PortInfo) → Observation → List ℕ
-record_text ports o =
-    decimal o.time ++ (codes " " ++ (path_text o.path ++ (codes " " ++ (decimal o.line
-    ++ (codes " " ++ (verb o.wanted ++ (codes " " ++ (port_name ports o.port
-    ++ (codes " = " ++ (decimal o.value ++ (wanted_text o.wanted ++ codes "\n")))))))))))
+-- where a record was made: the time step, the thread, the line, as `0 / 3`
+abbrev pub where_text : Observation → List ℕ
+where_text o = decimal o.time ++ (codes " " ++ (path_text o.path ++ (codes " " ++ decimal o.line)))
 
--- how a run ended, and in which time step
+-- what was seen: `peek out = 7`, or `expect out = 0 wanted 1`
+abbrev pub seen_text : List (List ℕ × PortInfo) → Observation → List ℕ
+seen_text ports o =
+    verb o.wanted ++ (codes " " ++ (port_name ports o.port ++ (codes " = " ++ (decimal o.value ++ wanted_text o.wanted))))
+
+-- the line of a record
+abbrev pub record_text : List (List ℕ × PortInfo) → Observation → List ℕ
+record_text ports o = where_text o ++ (codes " " ++ (seen_text ports o ++ codes "\n"))
+
+-- the word for how a run ended
 abbrev pub ending : Outcome → List ℕ
-ending (Failed time) = codes "failed at " ++ decimal time
-ending (Finished time) = codes "finished at " ++ decimal time
+ending (Failed time) = codes "failed"
+ending (Finished time) = codes "finished"
+
+-- the time step in which it did
+abbrev pub end_time : Outcome → ℕ
+end_time (Failed time) = time
+end_time (Finished time) = time
+
+-- how a run ended, and in which time step: `finished at 1`
+abbrev pub ending_text : Outcome → List ℕ
+ending_text outcome = ending outcome ++ (codes " at " ++ decimal (end_time outcome))
 
 -- the outcome: `finished at 1 after 7 actions, 2 records`
 abbrev pub outcome_text : Run → List ℕ
 outcome_text run =
-    ending run.outcome ++ (codes " after " ++ (decimal run.actions
+    ending_text run.outcome ++ (codes " after " ++ (decimal run.actions
     ++ (codes " actions, " ++ (decimal (length run.observations) ++ codes " records\n"))))
 
 -- the whole report: the circuit's name, the records in order, the outcome

@@ -2,7 +2,7 @@
 #![tactic(auto)]
 
 mod examples;
-mod report;
+mod lines;
 
 pub use examples::the_reports_work_out;
-pub use report::report;
+pub use lines::report;

@@ -4,5 +4,5 @@ use Rattle.out_text.specs.Report.{report_text}
 use Rattle.out_text.proofs.examples.the_reports_work_out.Goals as goal
 
 pub returns : goal.returns
-unfolding report_text, digits
+unfolding report_text digits
 returns c = record { of_the_adder = refl; of_a_failure = refl }

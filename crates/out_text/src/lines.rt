@@ -3,7 +3,7 @@
 //! A report is a list of lines: the circuit's name, each record in order, and the outcome. Each
 //! printer here puts one definition of `specs/Report.antt` behind the text so far.
 ghost use Rattle.std.specs.Prelude.{◌≡◌, ◌++◌, OnOk, IfOk, flat_map};
-ghost use Rattle.out_text.specs.Report.{port_name, verb, wanted_text, record_text, ending, outcome_text, report_text};
+ghost use Rattle.out_text.specs.Report.{port_name, verb, wanted_text, where_text, seen_text, record_text, ending, end_time, ending_text, outcome_text, report_text};
 
 use bench_core::{Observation, Outcome, Run};
 use net_core::{PortTable, Signal};
@@ -45,6 +45,36 @@ fn put_wanted(alloc: Global, out: &mut Vec<u8>, wanted: Option<u128>) -> Result<
     }
 }
 
+/// Puts where a record was made.
+fn put_where(alloc: Global, out: &mut Vec<u8>, record: &Observation) -> Result<(), Memory>
+    ensures { OnOk result (out.new.items ≡ out.old.items ++ where_text record.now) }
+{
+    put_decimal(alloc, out, u128::from(record.time))?;
+    put(out, b" ")?;
+    put_path(alloc, out, &record.path)?;
+    put(out, b" ")?;
+    put_decimal(alloc, out, u128::from(record.line))?;
+    Ok(())
+}
+
+/// Puts what a record says of its port.
+fn put_seen(
+    alloc: Global,
+    out: &mut Vec<u8>,
+    ports: &PortTable,
+    record: &Observation,
+) -> Result<(), Memory>
+    ensures { OnOk result (out.new.items ≡ out.old.items ++ seen_text ports.now record.now) }
+{
+    put(out, verb(record.wanted))?;
+    put(out, b" ")?;
+    put(out, port_name(ports, record.port))?;
+    put(out, b" = ")?;
+    put_decimal(alloc, out, record.value)?;
+    put_wanted(alloc, out, record.wanted)?;
+    Ok(())
+}
+
 /// Puts the line of a record.
 fn put_record(
     alloc: Global,
@@ -54,18 +84,9 @@ fn put_record(
 ) -> Result<(), Memory>
     ensures { OnOk result (out.new.items ≡ out.old.items ++ record_text ports.now record.now) }
 {
-    put_decimal(alloc, out, u128::from(record.time))?;
+    put_where(alloc, out, record)?;
     put(out, b" ")?;
-    put_path(alloc, out, &record.path)?;
-    put(out, b" ")?;
-    put_decimal(alloc, out, u128::from(record.line))?;
-    put(out, b" ")?;
-    put(out, verb(record.wanted))?;
-    put(out, b" ")?;
-    put(out, port_name(ports, record.port))?;
-    put(out, b" = ")?;
-    put_decimal(alloc, out, record.value)?;
-    put_wanted(alloc, out, record.wanted)?;
+    put_seen(alloc, out, ports, record)?;
     put(out, b"\n")?;
     Ok(())
 }
@@ -85,22 +106,34 @@ fn put_records(
     Ok(())
 }
 
-/// Puts how a run ended, and in which time step.
-fn put_ending(alloc: Global, out: &mut Vec<u8>, outcome: Outcome) -> Result<(), Memory>
-    ensures { OnOk result (out.new.items ≡ out.old.items ++ ending outcome) }
+/// The word for how a run ended.
+fn ending(outcome: Outcome) -> &'static [u8]
+    ensures { result.now ≡ ending outcome }
 {
     match outcome {
-        Outcome::Failed { time } => {
-            put(out, b"failed at ")?;
-            put_decimal(alloc, out, u128::from(time))?;
-            Ok(())
-        }
-        Outcome::Finished { time } => {
-            put(out, b"finished at ")?;
-            put_decimal(alloc, out, u128::from(time))?;
-            Ok(())
-        }
+        Outcome::Failed { .. } => b"failed",
+        Outcome::Finished { .. } => b"finished",
     }
+}
+
+/// The time step in which a run ended.
+fn end_time(outcome: Outcome) -> u32
+    ensures { result ≡ end_time outcome }
+{
+    match outcome {
+        Outcome::Failed { time } => time,
+        Outcome::Finished { time } => time,
+    }
+}
+
+/// Puts how a run ended, and in which time step.
+fn put_ending(alloc: Global, out: &mut Vec<u8>, outcome: Outcome) -> Result<(), Memory>
+    ensures { OnOk result (out.new.items ≡ out.old.items ++ ending_text outcome) }
+{
+    put(out, ending(outcome))?;
+    put(out, b" at ")?;
+    put_decimal(alloc, out, u128::from(end_time(outcome)))?;
+    Ok(())
 }
 
 /// Puts the line of the outcome.
