@@ -33,11 +33,7 @@ pub struct Port {
 #[derive(Debug, Drop)]
 pub enum Stmt {
     /// `connect sink, value`
-    Connect {
-        line: u32,
-        sink: Name,
-        value: Expr,
-    },
+    Connect { line: u32, sink: Name, value: Expr },
 }
 
 /// An expression.

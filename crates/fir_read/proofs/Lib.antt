@@ -1,0 +1,4 @@
+mod Lexing
+mod RowReading
+mod RowLaws
+mod Spelled
