@@ -1,9 +1,10 @@
 -- What the lexers of both languages share: the bytes of words and numbers, what begins at a byte, and places.
-use Rattle.std.specs.Prelude.{ℕ, ◌+◌, ◌-◌, ◌*◌, ◌^◌, nat_le, nat_lt, ◌==◌, ◌&&◌, ◌||◌, Bool, if◌then◌else◌, List, [], ◌∷◌, take, Option, Some, None}
+use Rattle.std.specs.Prelude.{ℕ, ◌+◌, ◌^◌, nat_lt, ◌==◌, ◌||◌, Bool, if◌then◌else◌, List, take, Some}
 use Rattle.std.specs.Char.{is_ascii_digit, is_ascii_alphabetic, is_ascii_alphanumeric}
 use Rattle.std.specs.List.{prefix_len}
 use Rattle.std.specs.Str.{byte}
-use Rattle.tb_base.specs.declared.Place.{Place}
+use Rattle.std.specs.Str.Parse.{digits_value}
+use Rattle.tb_base.specs.declared.place.Place.{Place}
 use Rattle.text_grammar.specs.declared.item.Token.{Token}
 use Rattle.text_grammar.specs.declared.item.Token.TheVariants as token
 use Rattle.text_grammar.specs.declared.lex.Class.{Class}
@@ -32,29 +33,13 @@ word text = record { token = Some (token.Word (take (run class.Word text) text))
 
 -- ---- numbers
 
--- what a digit stands for, letters from 10 on
-abbrev pub digit : ℕ → ℕ
-digit b = if is_ascii_digit b then b - byte "0" else (if nat_le (byte "a") b && nat_le b (byte "f") then b - byte "a" + 10 else (if nat_le (byte "A") b && nat_le b (byte "F") then b - byte "A" + 10 else 0))
-
--- the number that digits of a base spell, after those that stand for n
-abbrev pub value_after : ℕ → ℕ → List ℕ → ℕ
-value_after base n [] = n
-value_after base n (b ∷ rest) = value_after base (n * base + digit b) rest
-
-abbrev pub value_of : ℕ → List ℕ → ℕ
-value_of base digits = value_after base 0 digits
-
 -- numbers from 2^128 on have a token of their own
-abbrev pub below_limit : ℕ → Option ℕ
-below_limit n = if nat_lt n (2 ^ 128) then Some n else None
-
-abbrev pub number_token : Option ℕ → Token
-number_token (Some n) = token.Number n
-number_token None = token.TooWide
+abbrev pub number_token : ℕ → Token
+number_token n = if nat_lt n (2 ^ 128) then token.Number n else token.TooWide
 
 -- the decimal number at the head: all digits there
 abbrev pub decimal : List ℕ → Piece
-decimal text = record { token = Some (number_token (below_limit (value_of 10 (take (run class.Digit text) text)))); len = run class.Digit text }
+decimal text = record { token = Some (number_token (digits_value 10 (take (run class.Digit text) text))); len = run class.Digit text }
 
 -- ---- places
 

@@ -1,4 +1,6 @@
 //! The items of a text: its tokens, with their places.
+//!
+//! Both languages have the same items. Each lexer makes those of its language; a reader takes them one by one.
 
 ghost use Rattle.std.specs.Prelude.{◌≡◌};
 ghost use Rattle.text_grammar.specs.Part.{kind_of_token};
@@ -71,12 +73,16 @@ pub enum Symbol {
     Semicolon,
 }
 
+/// A token of a text, or what stands in a token's place.
 #[derive(Debug, Drop)]
 pub enum Token {
+    /// A word, with its bytes. No word is reserved.
     Word(Name),
+    /// A number below 2^128, by its value, however it is written.
     Number(u128),
     /// A number of 2^128 or more.
     TooWide,
+    /// A symbol, or the end of a logical line.
     Symbol(Symbol),
     /// A string, with the bytes between its quotes.
     Text(Name),
@@ -86,6 +92,7 @@ pub enum Token {
     Other,
 }
 
+/// A token with the place of its first byte.
 #[derive(Debug, Drop)]
 pub struct Item {
     pub place: Place,
@@ -93,6 +100,7 @@ pub struct Item {
 }
 
 impl Item {
+    /// Whether it is this very word.
     pub fn is_word(&self, text: &[u8]) -> bool
         ensures { result ≡ t.is_word text.now self.now }
     {
@@ -102,6 +110,7 @@ impl Item {
         }
     }
 
+    /// Whether it is this symbol.
     pub fn is_symbol(&self, symbol: Symbol) -> bool
         ensures { result ≡ t.is_symbol symbol self.now }
     {
@@ -111,18 +120,21 @@ impl Item {
         }
     }
 
+    /// Whether it is a word, whichever.
     pub fn is_name(&self) -> bool
         ensures { result ≡ t.is_name self.now }
     {
         matches!(&self.token, Token::Word(_))
     }
 
+    /// Whether it is a number below 2^128.
     pub fn is_number(&self) -> bool
         ensures { result ≡ t.is_number self.now }
     {
         matches!(&self.token, Token::Number(_))
     }
 
+    /// Whether it is this number, however it is written.
     pub fn is_the_number(&self, number: u128) -> bool
         ensures { result ≡ t.is_the_number number self.now }
     {
@@ -132,7 +144,7 @@ impl Item {
         }
     }
 
-    /// Why it is refused, where it is.
+    /// Why it is refused, where nothing is said of its place.
     pub fn refused(&self) -> Kind
         ensures { result ≡ kind_of_token self.now.token }
     {

@@ -1,12 +1,13 @@
 //! What the lexers of both languages share. A lexer cuts a text into pieces, from its head on: a token, or bytes that
 //! are no token. Words and numbers are the same in both languages, and so are places, from 1, with columns in bytes.
 
-ghost use Rattle.std.specs.Prelude.{◌≡◌, ◌<◌, ◌≤◌, ◌+◌, ◌^◌, length, slice_index, IfOk};
+ghost use Rattle.std.specs.Prelude.{◌≡◌, ◌<◌, ◌≤◌, ◌+◌, ◌^◌, length, slice_index, IfOk, true};
+ghost use Rattle.std.specs.Str.Parse.{digits_value, AllDigits};
 ghost use Rattle.text_grammar.specs.Lex as l;
 
 use crate::item::Token;
 use std::alloc::Global;
-use tb_base::{Memory, Name, Place};
+use tb_base::{Memory, Name, Place, read_number};
 
 /// Bytes that run on.
 #[derive(Clone, Copy, Debug, PartialEq, Eq)]
@@ -57,62 +58,40 @@ pub fn run(class: Class, text: &[u8]) -> usize
     text.len()
 }
 
-/// The word at the head of the text. The cost is its length.
+/// The word at the head of the text. The cost is its length, in memory too.
 pub fn word(alloc: Global, text: &[u8]) -> Result<Piece, Memory>
     ensures value { IfOk result (λ p. p ≡ l.word text.now) }
     ensures within { IfOk result (λ p. p.len ≤ length text.now) }
 {
     let len = run(Class::Word, text);
-    let bytes = Vec::from_slice(alloc, &text[..len]).map_err(|_| Memory)?;
+    let bytes = Vec::from_slice(alloc, &text[..len])?;
     let token = Some(Token::Word(Name::of(bytes)));
     Ok(Piece { token, len })
 }
 
-/// What a digit stands for, with letters from 10 on.
-pub fn digit(byte: u8) -> u128
-    ensures value { result ≡ l.digit byte }
-    ensures small { result < 256 }
+/// The token of the number that decimal digits spell.
+#[tactic(auto, using(crate::proofs::Digits::digits_spell))]
+fn number_token(digits: &[u8]) -> Token
+    requires some { 0 < length digits.now }
+    requires all { AllDigits 10 digits.now }
+    ensures { result ≡ l.number_token (digits_value 10 digits.now) }
 {
-    match byte {
-        b'0'..=b'9' => (byte - b'0') as u128,
-        b'a'..=b'f' => (byte - b'a') as u128 + 10,
-        b'A'..=b'F' => (byte - b'A') as u128 + 10,
-        _ => 0,
-    }
-}
-
-/// The number that the digits of a base spell, or `None` exactly from 2^128 on. The cost is linear in the digits.
-pub fn number(base: u128, digits: &[u8]) -> Option<u128>
-    requires { 1 ≤ base }
-    ensures { result ≡ l.below_limit (l.value_of base digits.now) }
-{
-    let mut total: u128 = 0;
-    for byte in digits {
-        let Some(shifted) = total.checked_mul(base) else {
-            return None;
-        };
-        let Some(next) = shifted.checked_add(digit(*byte)) else {
-            return None;
-        };
-        total = next;
-    }
-    Some(total)
-}
-
-/// The decimal number at the head of the text. The cost is its length.
-pub fn decimal(text: &[u8]) -> Piece
-    ensures value { result ≡ l.decimal text.now }
-    ensures within { result.len ≤ length text.now }
-{
-    let len = run(Class::Digit, text);
-    let token = match number(10, &text[..len]) {
+    match read_number(digits) {
         Some(number) => Token::Number(number),
         None => Token::TooWide,
-    };
-    Piece {
-        token: Some(token),
-        len,
     }
+}
+
+/// The decimal number at the head of the text, which begins with a digit. The cost is its length.
+#[tactic(auto, using(crate::proofs::Digits::front_digits, crate::proofs::Digits::front_some))]
+pub fn decimal(text: &[u8]) -> Piece
+    requires { l.is_in Class.Digit (slice_index text.now 0) ≡ true }
+    ensures value { result ≡ l.decimal text.now }
+    ensures within { (1 ≤ result.len) × (result.len ≤ length text.now) }
+{
+    let len = run(Class::Digit, text);
+    let token = Some(number_token(&text[..len]));
+    Piece { token, len }
 }
 
 /// The place after a piece that begins with this byte and has so many bytes.

@@ -1,4 +1,9 @@
 //! A cursor over the items of a text.
+//!
+//! Contracts see a cursor as the list of the items that are left. A call that reads a part takes the part's items and leaves
+//! those behind them; each says so by `Reads`, which also gives its fault: the kind of the item that is refused, and the count
+//! of items that are left from it on. After a fault the cursor stands where reading stopped, and is of no more use. Each call
+//! takes constant time, but for those that compare or copy a word, which take time linear in that word.
 
 ghost use Rattle.std.specs.Prelude.{◌≡◌, ◌&&◌, length, drop, Option, Some, None, Err, ◌==◌};
 ghost use Rattle.text_grammar.specs.Part.{Reads, refusal, starts, flag};
@@ -10,6 +15,7 @@ use std::alloc::Global;
 use std::marker::Model;
 use tb_base::Name;
 
+/// The items that are still to be read.
 #[derive(Drop)]
 pub struct Tokens<'a> {
     items: &'a [Item],
@@ -32,6 +38,7 @@ pub fn same(a: Symbol, b: Symbol) -> bool
 }
 
 impl<'a> Tokens<'a> {
+    /// A cursor at the first of the items.
     pub fn new(items: &'a [Item]) -> Tokens<'a>
         ensures { result ≡ items.now }
     {
@@ -45,7 +52,7 @@ impl<'a> Tokens<'a> {
         self.items.len()
     }
 
-    /// The line of the next item.
+    /// The line of the next item, or 0 at the end.
     pub fn line(&self) -> u32
         ensures { result ≡ t.line_of self.now }
     {
@@ -55,7 +62,7 @@ impl<'a> Tokens<'a> {
         }
     }
 
-    /// The fault of the next item, where it is refused.
+    /// The fault of the next item, where it is refused; at the end it is one of syntax.
     pub fn refuse(&self) -> ReadError
         ensures { result ≡ refusal self.now }
     {
@@ -66,6 +73,7 @@ impl<'a> Tokens<'a> {
         ReadError::At(kind, self.items.len())
     }
 
+    /// Whether the next item is this word.
     pub fn sees_word(&self, text: &[u8]) -> bool
         ensures { result ≡ starts (t.is_word text.now) self.now }
     {
@@ -75,6 +83,7 @@ impl<'a> Tokens<'a> {
         }
     }
 
+    /// Whether the next item is this symbol.
     pub fn sees(&self, symbol: Symbol) -> bool
         ensures { result ≡ starts (t.is_symbol symbol) self.now }
     {
@@ -84,7 +93,7 @@ impl<'a> Tokens<'a> {
         }
     }
 
-    /// Leaves the next item behind.
+    /// Leaves the next item behind, if there is one.
     pub fn skip(&mut self)
         ensures { self.new ≡ drop 1 self.old }
     {
@@ -93,6 +102,7 @@ impl<'a> Tokens<'a> {
         }
     }
 
+    /// Takes this word.
     #[tactic(auto, using(crate::proofs::Reading::flag_taken, crate::proofs::Reading::flag_refused))]
     pub fn keyword(&mut self, text: &[u8]) -> Result<(), ReadError>
         ensures { Reads ((t.keyword text.now).reads self.old) result self.new }
@@ -120,6 +130,7 @@ impl<'a> Tokens<'a> {
         }
     }
 
+    /// Takes this symbol.
     #[tactic(auto, using(crate::proofs::Reading::flag_taken, crate::proofs::Reading::flag_refused))]
     pub fn mark(&mut self, symbol: Symbol) -> Result<(), ReadError>
         ensures { Reads ((t.mark symbol).reads self.old) result self.new }
@@ -132,6 +143,7 @@ impl<'a> Tokens<'a> {
         }
     }
 
+    /// Takes a word, and gives a copy of it.
     #[tactic(auto, unfolding(crate::specs::Terminals::name, crate::specs::Part::one_by))]
     pub fn name(&mut self, alloc: Global) -> Result<Name, ReadError>
         ensures { Reads (t.name.reads self.old) result self.new }
@@ -165,6 +177,7 @@ impl<'a> Tokens<'a> {
         }
     }
 
+    /// Whether the next item is this number.
     pub fn sees_the_number(&self, number: u128) -> bool
         ensures { result ≡ starts (t.is_the_number number) self.now }
     {
@@ -174,7 +187,7 @@ impl<'a> Tokens<'a> {
         }
     }
 
-    /// The column of the next item.
+    /// The column of the next item, or 0 at the end.
     pub fn column(&self) -> u32
         ensures { result ≡ t.column_of self.now }
     {
@@ -184,6 +197,7 @@ impl<'a> Tokens<'a> {
         }
     }
 
+    /// Whether the next item is a word.
     pub fn sees_name(&self) -> bool
         ensures { result ≡ starts t.is_name self.now }
     {
@@ -193,6 +207,7 @@ impl<'a> Tokens<'a> {
         }
     }
 
+    /// Whether the next item is a number below 2^128.
     pub fn sees_number(&self) -> bool
         ensures { result ≡ starts t.is_number self.now }
     {
@@ -202,6 +217,7 @@ impl<'a> Tokens<'a> {
         }
     }
 
+    /// Whether the next item stands at a greater column than this.
     pub fn is_deeper(&self, column: u32) -> bool
         ensures { result ≡ starts (t.deeper column) self.now }
     {
@@ -211,6 +227,7 @@ impl<'a> Tokens<'a> {
         }
     }
 
+    /// Takes a number, and gives its value.
     #[tactic(auto, unfolding(crate::specs::Terminals::number, crate::specs::Part::one_by))]
     pub fn number(&mut self) -> Result<u128, ReadError>
         ensures { Reads (t.number.reads self.old) result self.new }

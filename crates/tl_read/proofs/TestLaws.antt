@@ -4,7 +4,9 @@ use Rattle.std.specs.Prelude.{◌||◌, codes}
 use Rattle.text_grammar.specs.declared.item.Item.{Item}
 use Rattle.text_grammar.specs.declared.item.Symbol.TheVariants as s
 use Rattle.text_grammar.specs.declared.fault.Kind.{Kind}
-use Rattle.text_grammar.specs.Part.{Outcome, first, second, many, whole}
+use Rattle.text_grammar.specs.declared.fault.ReadError.{ReadError}
+use Rattle.text_grammar.specs.declared.fault.ReadError.TheVariants as errors
+use Rattle.text_grammar.specs.Part.{Outcome, Fails, first, second, many, whole}
 use Rattle.text_grammar.specs.Terminals.{is_word, mark, name, number, the_number}
 use Rattle.text_grammar.proofs.Laws.{All, Step, IsRead, Begins, closed, or_more, both_step, both_read_closed, after_step, after_read_closed, after_begins, either_step, either_read, either_begins, either_avoids, avoids_apart, begins_wider, many_step, many_read, many_count}
 use Rattle.text_grammar.proofs.Items.{flag_read, mark_step, leading_step, leading_read, leading_begins, name_step, name_read, number_step, number_read, the_number_step, word_apart}
@@ -13,7 +15,8 @@ use Rattle.tl_read.specs.declared.tree.TestStmt.{TestStmt}
 use Rattle.tl_read.specs.declared.tree.TestText.{TestText}
 use Rattle.tl_read.specs.Lex.{items_of}
 use Rattle.tl_read.specs.Grammar.{poke, peek, expect, step, statement, is_statement, statements}
-use Rattle.tl_read.specs.TestForm.{spells_test, test_read, test_of}
+use Rattle.tl_read.specs.Fault.{form_fault}
+use Rattle.tl_read.specs.TestForm.{spells_test, test_read, test_of, FaultOf}
 use Rattle.tl_read.proofs.LexLemmas.{items_count}
 
 module _ {E : Kind → Type 0} {L : Type 0} where
@@ -147,9 +150,13 @@ pub read_found : (text : List ℕ) (items new : List Item) (body : List TestStmt
 unfolding test_of
 read_found text items new body is e = ap test_read (ap (whole statements).reads (sym is) ∙ e)
 
-pub read_none : (text : List ℕ) (items : List Item) (kind : Kind) (left : ℕ) → items ≡ items_of text → (whole statements).reads items ≡ Err (kind, left) → test_of text ≡ None
+read_none : (text : List ℕ) (items : List Item) (kind : Kind) (left : ℕ) → items ≡ items_of text → (whole statements).reads items ≡ Err (kind, left) → test_of text ≡ None
 unfolding test_of
 read_none text items kind left is e = ap test_read (ap (whole statements).reads (sym is) ∙ e)
+
+pub read_faulty : (text : List ℕ) (items : List Item) (e : ReadError) → items ≡ items_of text → Fails ((whole statements).reads items) e → FaultOf text (form_fault e)
+read_faulty text items errors.Memory is h = tt
+read_faulty text items (errors.At kind left) is h = read_none text items kind left is h
 
 -- a test has at most as many statements as its text has bytes
 pub found_short : (text : List ℕ) (x : TestText) → test_of text ≡ Some x → length x.body ≤ length text

@@ -2,7 +2,7 @@
 use Rattle.std.specs.Prelude.{ℕ, zero, suc, ◌-◌, ◌==◌, ◌||◌, Bool, if◌then◌else◌, List, [], ◌∷◌, take, slice_index, Option, Some, None, codes}
 use Rattle.std.specs.Char.{is_ascii_digit}
 use Rattle.std.specs.Str.{byte, bytes_eq}
-use Rattle.tb_base.specs.declared.Place.{Place}
+use Rattle.tb_base.specs.declared.place.Place.{Place}
 use Rattle.text_grammar.specs.declared.item.Item.{Item}
 use Rattle.text_grammar.specs.declared.item.Token.{Token}
 use Rattle.text_grammar.specs.declared.item.Token.TheVariants as token

@@ -1,3 +1,4 @@
 pub mod Lex
 pub mod Grammar
+pub mod Fault
 pub mod TestForm

@@ -110,7 +110,10 @@ fn put(items: &mut Vec<Item>, place: Place, token: Option<Token>) -> Result<(), 
 {
     match token {
         None => Ok(()),
-        Some(token) => items.push(Item { place, token }).map_err(|_| Memory),
+        Some(token) => {
+            items.push(Item { place, token })?;
+            Ok(())
+        }
     }
 }
 

@@ -13,7 +13,7 @@ use crate::form::FormFault;
 use crate::lex::items;
 use crate::tree::{TestStmt, TestText};
 use std::alloc::Global;
-use tb_base::{Memory, Seq};
+use tb_base::Seq;
 use text_grammar::{ReadError, Symbol, Tokens};
 
 /// The semicolon that ends a statement.
@@ -129,16 +129,10 @@ pub fn read_test(alloc: Global, text: &[u8]) -> Result<TestText, FormFault>
     ensures short { IfOk result (λ x. length x.body ≤ length text.now) }
     ensures fault { IfErr result (λ e. FaultOf text.now e) }
 {
-    let items = match items(alloc, text) {
-        Ok(items) => items,
-        Err(memory) => return Err(FormFault::Memory(memory)),
-    };
+    let items = items(alloc, text)?;
     let mut tokens = Tokens::new(items.as_slice());
-    match whole_test(alloc, &mut tokens) {
-        Ok(body) => Ok(TestText { body }),
-        Err(ReadError::Memory) => Err(FormFault::Memory(Memory)),
-        Err(ReadError::At(_, _)) => Err(FormFault::NotInForm),
-    }
+    let body = whole_test(alloc, &mut tokens)?;
+    Ok(TestText { body })
 }
 
 /// Examples: white space and leading zeros are free, a statement has the line of its first token, and a step has the count 1.

@@ -1,15 +1,18 @@
 use Rattle.std.proofs.Common.{◌∙◌}
-use Rattle.tl_read.proofs.TestLaws.{read_found, read_none, found_spelled, found_short}
+use Rattle.std.proofs.lemmas.Result.{err_from_is_err_and}
+use Rattle.tl_read.proofs.TestLaws.{read_found, read_faulty, found_spelled, found_short}
 use Rattle.tl_read.proofs.read.read_test.Goals as goal
 
-pub returns-in-Ok-whole_test-clause-found : goal.returns-in-Ok-whole_test-clause-found
-returns-in-Ok-whole_test-clause-found c = read_found c.args.text.now c.new-tokens.result c.whole_test.new.tokens c.in-Ok-whole_test.body (c.new-tokens.ensures ∙ c.as_slice.ensures.value ∙ c.in-Ok.ensures) c.in-Ok-whole_test.ensures
+pub returns-in_err-body-clause-fault : goal.returns-in_err-body-clause-fault
+returns-in_err-body-clause-fault c =
+    let p = err_from_is_err_and c.from_residual-in_err-body.result c.from_residual-in_err-body.ensures.1 in
+    rw (p.1, p.2) (read_faulty c.args.text.now c.new-tokens.result c.in_err-body.field-0.0 (c.new-tokens.ensures ∙ c.as_slice.ensures.value ∙ c.in_ok-items.ensures) c.in_err-body.ensures)
 
-pub returns-in-Ok-whole_test-clause-spelled : goal.returns-in-Ok-whole_test-clause-spelled
-returns-in-Ok-whole_test-clause-spelled c = found_spelled c.args.text.now _ (returns-in-Ok-whole_test-clause-found c)
+pub returns-clause-found : goal.returns-clause-found
+returns-clause-found c = read_found c.args.text.now c.new-tokens.result c.whole_test.new.tokens c.in_ok-body.body (c.new-tokens.ensures ∙ c.as_slice.ensures.value ∙ c.in_ok-items.ensures) c.in_ok-body.ensures
 
-pub returns-in-Ok-whole_test-clause-short : goal.returns-in-Ok-whole_test-clause-short
-returns-in-Ok-whole_test-clause-short c = found_short c.args.text.now _ (returns-in-Ok-whole_test-clause-found c)
+pub returns-clause-spelled : goal.returns-clause-spelled
+returns-clause-spelled c = found_spelled c.args.text.now _ (returns-clause-found c)
 
-pub returns-clause-fault : goal.returns-clause-fault
-returns-clause-fault c = read_none c.args.text.now c.new-tokens.result c.in-Err-At.field-0-0 c.in-Err-At.field-0-1 (c.new-tokens.ensures ∙ c.as_slice.ensures.value ∙ c.in-Ok.ensures) (rw c.in-Err-At.field-0-is at c.in-Err-At.ensures)
+pub returns-clause-short : goal.returns-clause-short
+returns-clause-short c = found_short c.args.text.now _ (returns-clause-found c)
