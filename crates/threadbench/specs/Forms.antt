@@ -7,7 +7,7 @@ use Rattle.sim_plain.specs.Settled.{DesignValue}
 use Rattle.sim_plain.specs.DesignOf.{design_of}
 use Rattle.bench_core.specs.declared.act.Act.{Act}
 use Rattle.bench_core.specs.Acts.{acts_of}
-use Rattle.threadbench.specs.Toy.{circuit_of}
+use Rattle.fir_read.specs.Circuits.{circuit_of}
 
 -- the design of a circuit's text, which is there exactly where the text is a circuit in the first form
 abbrev pub design_for : List ℕ → Option DesignValue

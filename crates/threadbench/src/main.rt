@@ -19,7 +19,6 @@ mod layers;
 mod reading;
 mod reply;
 mod top;
-mod toy;
 mod words;
 mod writing;
 
