@@ -15,10 +15,7 @@ fn ident(alloc: Global, text: &[u8]) -> Result<Expr, AllocError> {
 }
 
 fn part(alloc: Global, of: &[u8], field: &[u8]) -> Result<Expr, AllocError> {
-    Ok(Expr::Part(
-        Boxed::new(alloc, ident(alloc, of)?)?,
-        name(alloc, field)?,
-    ))
+    Ok(Expr::Part(Boxed::new(alloc, ident(alloc, of)?)?, name(alloc, field)?))
 }
 
 fn uint(width: Option<u8>, magnitude: u128) -> Expr {
@@ -213,7 +210,10 @@ fn types_and_literals(rt: HostRuntime) -> Result<(), Fail> {
     body.push(Stmt::Wire {
         line: 3,
         name: name(alloc, b"v")?,
-        ty: Ty::Vector(Boxed::new(alloc, Ty::Vector(Boxed::new(alloc, Ty::SInt(None))?, 3))?, 65536),
+        ty: Ty::Vector(
+            Boxed::new(alloc, Ty::Vector(Boxed::new(alloc, Ty::SInt(None))?, 3))?,
+            65536,
+        ),
     })?;
     body.push(Stmt::Wire {
         line: 4,
