@@ -6,9 +6,9 @@ use Rattle.fir_ast.specs.declared.tree.Ty.{Ty}
 use Rattle.fir_ast.specs.declared.tree.Ty.TheVariants.{UInt, SInt, Clock, Bundle, Vector}
 use Rattle.fir_ast.specs.declared.tree.Ty.TheViews.{roll-Field}
 use Rattle.fir_ast.specs.declared.tree.Expr.{Expr}
-use Rattle.fir_ast.specs.declared.tree.Expr.TheVariants.{Ident, Part, Lit, Apply}
+use Rattle.fir_ast.specs.declared.tree.Expr.TheVariants.{Ident, Part, At, Index, Lit, Apply}
 use Rattle.fir_ast.specs.declared.tree.VerifKind.TheVariants.{Printf, Stop, Assert}
-use Rattle.fir_ast.specs.declared.tree.Stmt.TheVariants.{Reg, Connect, When, Skip, Verif}
+use Rattle.fir_ast.specs.declared.tree.Stmt.TheVariants.{Wire, Node, Reg, Inst, Connect, Invalid, When, Skip, Verif}
 use Rattle.fir_ast.specs.declared.tree.Circuit.{Circuit}
 use Rattle.fir_ast.specs.Printed.{printed, type_text, expr_text, stmt_text}
 
@@ -50,6 +50,11 @@ pub record PrintedExamples : Type 0 where
   pub numbers_follow_operands : expr_text (Apply Bits (Part a (codes "b") ∷ []) (7 ∷ 0 ∷ [])) ≡ codes "bits(a.b, 7, 0)"
   pub flipped_field : type_text ready_bits ≡ codes "{ flip ready : UInt<1>, bits : SInt[4] }"
   pub no_field : type_text (Bundle []) ≡ codes "{}"
+  pub plain_and_computed_index : expr_text (Index (At a 2) (Lit false None false 7)) ≡ codes "a[2][UInt(7)]"
+  pub wire : stmt_text (Wire 1 (codes "w") (Vector (Vector (SInt None) 3) 2)) [] ≡ lines (codes "wire w : SInt[3][2]" ∷ [])
+  pub node : stmt_text (Node 1 (codes "n") a) [] ≡ lines (codes "node n = a" ∷ [])
+  pub instance : stmt_text (Inst 1 (codes "q") (codes "Q2")) [] ≡ lines (codes "inst q of Q2" ∷ [])
+  pub invalidated : stmt_text (Invalid 1 (Part a (codes "b"))) [] ≡ lines (codes "invalidate a.b" ∷ [])
   -- a register is a `regreset` where it has a reset
   pub plain_register : stmt_text (Reg 1 (codes "r") Clock clock None) (codes "  ") ≡ lines (codes "  reg r : Clock, clock" ∷ [])
   pub register_with_reset :

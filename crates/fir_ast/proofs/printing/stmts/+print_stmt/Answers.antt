@@ -11,7 +11,7 @@ put_stmt-returns-in_ok-put-in-Invalid t c =
     let indent = c.args.indent.now in
     let sink = c.in-Invalid.sink in
     line_written start indent (invalid_words sink) c.put.new.out.items c.put_invalid.new.out.items c.put-in-Invalid.new.out.items
-        c.in_ok-put.ensures.ok c.in_ok-put_invalid-in-Invalid.ensures c.in_ok-put-in-Invalid.ensures.ok
+    c.in_ok-put.ensures.ok c.in_ok-put_invalid-in-Invalid.ensures c.in_ok-put-in-Invalid.ensures.ok
     ∙ ap (λ text. start ++ text) (sym (invalid_text c.in-Invalid.line sink indent) ∙ ap (λ s. stmt_text s indent) (sym c.in-Invalid.is))
 
 pub put_stmt-returns-in_ok-put_else-in-When : goal.put_stmt-returns-in_ok-put_else-in-When
