@@ -1,7 +1,7 @@
 use Rattle.std.proofs.Common.{sym, ap, ◌∙◌, ◌++◌, map}
 use Rattle.std.specs.Prelude.{codes}
 use Rattle.fir_ast.specs.Printed.{stmt_text, block_text, else_text, deeper, line_text, when_words, invalid_words, verif_words}
-use Rattle.fir_ast.proofs.Lines.{line_written, blocks_written, block_next}
+use Rattle.fir_ast.proofs.Lines.{line_written, blocks_written}
 use Rattle.fir_ast.proofs.Rows.{invalid_text, when_text, skip_text, verif_text}
 use Rattle.fir_ast.proofs.printing.stmts.+print_stmt.Goals as goal
 
