@@ -41,11 +41,12 @@ abbrev pub bundle_text : List (List ℕ) → List ℕ
 bundle_text [] = codes "{}"
 bundle_text (f ∷ fs) = codes "{ " ++ (listed (f ∷ fs) ++ codes " }")
 
+-- `flip ` in front of a flipped field
 abbrev pub flip_text : Bool → List ℕ
 flip_text true = codes "flip "
 flip_text false = []
 
--- one level of a type, from the texts of the types in it
+-- one level of a type, from the texts of the types and fields in it
 abbrev pub type_level : Ty-F (List ℕ) (List ℕ) → List ℕ
 type_level (UInt w) = codes "UInt" ++ width_text w
 type_level (SInt w) = codes "SInt" ++ width_text w
@@ -58,18 +59,22 @@ type_level (Vector of n) = of ++ (codes "[" ++ (decimal n ++ codes "]"))
 abbrev pub field_level : Field-F (List ℕ) (List ℕ) → List ℕ
 field_level f = flip_text f.flip ++ (f.name ++ (codes " : " ++ f.ty))
 
+-- the text of a type
 abbrev pub type_text : Ty → List ℕ
 type_text = fold-Ty (List ℕ) (List ℕ) type_level field_level
 
+-- the text of a field
 abbrev pub field_text : Field → List ℕ
 field_text = fold-Field (List ℕ) (List ℕ) type_level field_level
 
 -- an expression
 
+-- `SInt` or `UInt`
 abbrev pub sign_name : Bool → List ℕ
 sign_name true = codes "SInt"
 sign_name false = codes "UInt"
 
+-- `-` in front of a negative magnitude
 abbrev pub minus_text : Bool → List ℕ
 minus_text true = codes "-"
 minus_text false = []
@@ -87,33 +92,44 @@ expr_level (Index e index) = e ++ (codes "[" ++ (index ++ codes "]"))
 expr_level (Lit signed width negative n) = literal_text signed width negative n
 expr_level (Apply op args nums) = op_name op ++ (codes "(" ++ (listed (args ++ map decimal nums) ++ codes ")"))
 
+-- the text of an expression
 abbrev pub expr_text : Expr → List ℕ
 expr_text = fold-Expr (List ℕ) expr_level
 
 -- the words of a statement
 
+-- `wire name : T`
 abbrev pub wire_words : List ℕ → Ty → List ℕ
 wire_words name ty = codes "wire " ++ (name ++ (codes " : " ++ type_text ty))
 
+-- `node name = E`
 abbrev pub node_words : List ℕ → Expr → List ℕ
 node_words name value = codes "node " ++ (name ++ (codes " = " ++ expr_text value))
 
--- a register is a `regreset` exactly where it has a reset
+-- `reg name : T, E`, or `regreset name : T, E, E, E` where it has a reset
 abbrev pub reg_words : List ℕ → Ty → Expr → Option ResetPair → List ℕ
 reg_words name ty clock None = codes "reg " ++ (name ++ (codes " : " ++ (type_text ty ++ (codes ", " ++ expr_text clock))))
 reg_words name ty clock (Some r) =
     codes "regreset " ++ (name ++ (codes " : " ++ (type_text ty ++ (codes ", " ++ (expr_text clock
     ++ (codes ", " ++ (expr_text r.signal ++ (codes ", " ++ expr_text r.init))))))))
 
+-- `inst name of target`
 abbrev pub inst_words : List ℕ → List ℕ → List ℕ
 inst_words name target = codes "inst " ++ (name ++ (codes " of " ++ target))
 
+-- `connect S, E`
 abbrev pub connect_words : Expr → Expr → List ℕ
 connect_words sink value = codes "connect " ++ (expr_text sink ++ (codes ", " ++ expr_text value))
 
+-- `invalidate S`
+abbrev pub invalid_words : Expr → List ℕ
+invalid_words sink = codes "invalidate " ++ expr_text sink
+
+-- `when E :`
 abbrev pub when_words : Expr → List ℕ
 when_words cond = codes "when " ++ (expr_text cond ++ codes " :")
 
+-- the first word of a verification statement
 abbrev pub kind_name : VerifKind → List ℕ
 kind_name Printf = codes "printf"
 kind_name Stop = codes "stop"
@@ -127,11 +143,12 @@ operands_before Printf = 2
 operands_before Stop = 2
 operands_before _ = 3
 
--- the number of a `stop`, the string of the others
+-- the number of a `stop`, the string of the others in its quotes
 abbrev pub message_text : VerifKind → ℕ → List ℕ → List ℕ
 message_text Stop code text = decimal code
 message_text _ code text = codes "\"" ++ (text ++ codes "\"")
 
+-- ` : name` where there is a label
 abbrev pub label_text : Option (List ℕ) → List ℕ
 label_text None = []
 label_text (Some name) = codes " : " ++ name
@@ -141,6 +158,7 @@ abbrev pub verif_operands : VerifKind → List Expr → ℕ → List ℕ → Lis
 verif_operands kind args code text =
     map expr_text (take (operands_before kind) args) ++ message_text kind code text ∷ map expr_text (drop (operands_before kind) args)
 
+-- `printf(E, E, "s", E)`, `stop(E, E, n)`, `assert(E, E, E, "s", E)` and its kin, each with its label
 abbrev pub verif_words : VerifKind → List Expr → ℕ → List ℕ → Option (List ℕ) → List ℕ
 verif_words kind args code text label =
     kind_name kind ++ (codes "(" ++ (listed (verif_operands kind args code text) ++ (codes ")" ++ label_text label)))
@@ -171,7 +189,7 @@ stmt_level (Node _ name value) indent = line_text indent (node_words name value)
 stmt_level (Reg _ name ty clock reset) indent = line_text indent (reg_words name ty clock reset)
 stmt_level (Inst _ name target) indent = line_text indent (inst_words name target)
 stmt_level (Connect _ sink value) indent = line_text indent (connect_words sink value)
-stmt_level (Invalid _ sink) indent = line_text indent (codes "invalidate " ++ expr_text sink)
+stmt_level (Invalid _ sink) indent = line_text indent (invalid_words sink)
 stmt_level (When _ cond taken other) indent =
     line_text indent (when_words cond) ++ (block_text taken (deeper indent) ++ else_text other indent)
 stmt_level (Skip _) indent = line_text indent (codes "skip")
@@ -181,6 +199,7 @@ stmt_level (Verif _ kind args code text label) indent = line_text indent (verif_
 abbrev pub stmt_text : Stmt → List ℕ → List ℕ
 stmt_text = fold-Stmt (List ℕ → List ℕ) stmt_level
 
+-- the first word of a port
 abbrev pub direction_name : Bool → List ℕ
 direction_name true = codes "output "
 direction_name false = codes "input "

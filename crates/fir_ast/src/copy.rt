@@ -31,7 +31,7 @@ fn copy_modules(alloc: Global, modules: &[Module]) -> Result<Vec<Module>, Memory
     let mut copies = Vec::new(alloc);
     for module in modules {
         let copy = module.copy(alloc)?;
-        copies.push(copy).map_err(|_| Memory)?;
+        copies.push(copy)?;
     }
     Ok(copies)
 }
@@ -59,7 +59,7 @@ fn copy_ports(alloc: Global, ports: &[Port]) -> Result<Vec<Port>, Memory>
     let mut copies = Vec::new(alloc);
     for port in ports {
         let copy = port.copy(alloc)?;
-        copies.push(copy).map_err(|_| Memory)?;
+        copies.push(copy)?;
     }
     Ok(copies)
 }
@@ -80,15 +80,6 @@ impl Port {
     }
 }
 
-fn boxed_ty(alloc: Global, ty: Ty) -> Result<Boxed<Ty>, Memory>
-    ensures { IfOk result (λ b. b ≡ ty) }
-{
-    match Boxed::new(alloc, ty) {
-        Ok(b) => Ok(b),
-        Err(_) => Err(Memory),
-    }
-}
-
 impl Ty {
     /// A copy, or `Memory`.
     #[cycle(copy_ty)]
@@ -106,7 +97,7 @@ impl Ty {
             }
             Ty::Vector(of, len) => {
                 let of = of.get().copy(alloc)?;
-                Ok(Ty::Vector(boxed_ty(alloc, of)?, *len))
+                Ok(Ty::Vector(Boxed::new(alloc, of)?, *len))
             }
         }
     }
@@ -125,27 +116,9 @@ fn copy_fields(alloc: Global, fields: &[Field]) -> Result<Vec<Field>, Memory>
             name,
             ty,
         };
-        copies.push(copy).map_err(|_| Memory)?;
+        copies.push(copy)?;
     }
     Ok(copies)
-}
-
-fn boxed_expr(alloc: Global, expr: Expr) -> Result<Boxed<Expr>, Memory>
-    ensures { IfOk result (λ b. b ≡ expr) }
-{
-    match Boxed::new(alloc, expr) {
-        Ok(b) => Ok(b),
-        Err(_) => Err(Memory),
-    }
-}
-
-fn copy_numbers(alloc: Global, numbers: &[u128]) -> Result<Seq<u128>, Memory>
-    ensures { IfOk result (λ s. s ≡ numbers.now) }
-{
-    match Vec::from_slice(alloc, numbers) {
-        Ok(copies) => Ok(Seq::of(copies)),
-        Err(_) => Err(Memory),
-    }
 }
 
 impl Expr {
@@ -157,13 +130,13 @@ impl Expr {
         match self {
             Expr::Ident(name) => Ok(Expr::Ident(name.copy(alloc)?)),
             Expr::Part(of, name) => {
-                let of = boxed_expr(alloc, of.get().copy(alloc)?)?;
+                let of = Boxed::new(alloc, of.get().copy(alloc)?)?;
                 Ok(Expr::Part(of, name.copy(alloc)?))
             }
-            Expr::At(of, at) => Ok(Expr::At(boxed_expr(alloc, of.get().copy(alloc)?)?, *at)),
+            Expr::At(of, at) => Ok(Expr::At(Boxed::new(alloc, of.get().copy(alloc)?)?, *at)),
             Expr::Index(of, at) => {
-                let of = boxed_expr(alloc, of.get().copy(alloc)?)?;
-                Ok(Expr::Index(of, boxed_expr(alloc, at.get().copy(alloc)?)?))
+                let of = Boxed::new(alloc, of.get().copy(alloc)?)?;
+                Ok(Expr::Index(of, Boxed::new(alloc, at.get().copy(alloc)?)?))
             }
             Expr::Lit {
                 signed,
@@ -178,11 +151,11 @@ impl Expr {
             }),
             Expr::Apply { op, args, nums } => {
                 let args = copy_exprs(alloc, args.as_slice())?;
-                let nums = copy_numbers(alloc, nums.items())?;
+                let nums = Vec::from_slice(alloc, nums.items())?;
                 Ok(Expr::Apply {
                     op: *op,
                     args: Items::from_vec(args),
-                    nums,
+                    nums: Seq::of(nums),
                 })
             }
         }
@@ -196,7 +169,7 @@ fn copy_exprs(alloc: Global, exprs: &[Expr]) -> Result<Vec<Expr>, Memory>
     let mut copies = Vec::new(alloc);
     for expr in exprs {
         let copy = expr.copy(alloc)?;
-        copies.push(copy).map_err(|_| Memory)?;
+        copies.push(copy)?;
     }
     Ok(copies)
 }
@@ -304,7 +277,7 @@ fn copy_stmts(alloc: Global, stmts: &[Stmt]) -> Result<Vec<Stmt>, Memory>
     let mut copies = Vec::new(alloc);
     for stmt in stmts {
         let copy = stmt.copy(alloc)?;
-        copies.push(copy).map_err(|_| Memory)?;
+        copies.push(copy)?;
     }
     Ok(copies)
 }

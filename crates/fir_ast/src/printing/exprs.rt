@@ -96,10 +96,8 @@ fn put_operands(
     args: &[Expr],
     nums: &[u128],
 ) -> Result<(), Memory>
-    ensures {
-        OnOk result (out.new.items
-            ≡ out.old.items ++ listed (map expr_text args.now ++ map decimal nums.now))
-    }
+    ensures { OnOk result (out.new.items
+        ≡ out.old.items ++ listed (map expr_text args.now ++ map decimal nums.now)) }
 {
     put_exprs(alloc, out, true, args)?;
     put_decimals(alloc, out, b", ", args.is_empty(), nums)?;
@@ -115,10 +113,8 @@ pub(crate) fn put_exprs(
     is_first: bool,
     exprs: &[Expr],
 ) -> Result<(), Memory>
-    ensures {
-        OnOk result (out.new.items
-            ≡ out.old.items ++ joined_after (codes ", ") is_first (map expr_text exprs.now))
-    }
+    ensures { OnOk result (out.new.items
+        ≡ out.old.items ++ joined_after (codes ", ") is_first (map expr_text exprs.now)) }
 {
     let mut is_next_first = is_first;
     for expr in exprs {

@@ -4,13 +4,13 @@
 //! passed as text. So any tree can be printed, however deep its blocks are.
 ghost use Rattle.std.specs.Prelude.{◌≡◌, ◌++◌, OnOk, IfOk, codes, map, take, drop};
 ghost use Rattle.tb_base.specs.Joined.{joined};
-ghost use Rattle.fir_ast.specs.Printed.{stmt_text, block_text, else_text, deeper, line_text, wire_words, node_words, reg_words, type_text, expr_text, inst_words, connect_words, when_words, verif_words, verif_operands, kind_name, operands_before, message_text, label_text, listed};
+ghost use Rattle.fir_ast.specs.Printed.{stmt_text, block_text, else_text, deeper, line_text, wire_words, node_words, reg_words, type_text, expr_text, inst_words, connect_words, invalid_words, when_words, verif_words, verif_operands, kind_name, operands_before, message_text, label_text, listed};
 
 use super::exprs::{put_expr, put_exprs};
 use super::types::put_type;
 use crate::tree::{Expr, ResetPair, Stmt, Ty, VerifKind};
 use std::alloc::Global;
-use tb_base::{Memory, Name, put, put_decimal, put_gap};
+use tb_base::{Memory, Name, Seq, put, put_decimal, put_gap};
 
 fn put_wire(alloc: Global, out: &mut Vec<u8>, name: &Name, ty: &Ty) -> Result<(), Memory>
     ensures { OnOk result (out.new.items ≡ out.old.items ++ wire_words name.now ty.now) }
@@ -68,10 +68,8 @@ fn put_declared(
     ty: &Ty,
     clock: &Expr,
 ) -> Result<(), Memory>
-    ensures {
-        OnOk result (out.new.items
-            ≡ out.old.items ++ (name.now ++ (codes " : " ++ (type_text ty.now ++ (codes ", " ++ expr_text clock.now)))))
-    }
+    ensures { OnOk result (out.new.items
+        ≡ out.old.items ++ (name.now ++ (codes " : " ++ (type_text ty.now ++ (codes ", " ++ expr_text clock.now))))) }
 {
     put(out, name.bytes())?;
     put(out, b" : ")?;
@@ -98,6 +96,14 @@ fn put_connect(alloc: Global, out: &mut Vec<u8>, sink: &Expr, value: &Expr) -> R
     put_expr(alloc, out, sink)?;
     put(out, b", ")?;
     put_expr(alloc, out, value)?;
+    Ok(())
+}
+
+fn put_invalid(alloc: Global, out: &mut Vec<u8>, sink: &Expr) -> Result<(), Memory>
+    ensures { OnOk result (out.new.items ≡ out.old.items ++ invalid_words sink.now) }
+{
+    put(out, b"invalidate ")?;
+    put_expr(alloc, out, sink)?;
     Ok(())
 }
 
@@ -135,13 +141,21 @@ fn count_before(kind: VerifKind) -> usize
 fn first_of(args: &[Expr], count: usize) -> &[Expr]
     ensures { result.now ≡ take count args.now }
 {
-    if count < args.len() { &args[..count] } else { args }
+    if count < args.len() {
+        &args[..count]
+    } else {
+        args
+    }
 }
 
 fn rest_of(args: &[Expr], count: usize) -> &[Expr]
     ensures { result.now ≡ drop count args.now }
 {
-    if count < args.len() { &args[count..] } else { &[] }
+    if count < args.len() {
+        &args[count..]
+    } else {
+        &[]
+    }
 }
 
 fn put_message(
@@ -188,10 +202,8 @@ fn put_verif_operands(
     code: u128,
     text: &Name,
 ) -> Result<(), Memory>
-    ensures {
-        OnOk result (out.new.items
-            ≡ out.old.items ++ listed (verif_operands kind args.now code text.now))
-    }
+    ensures { OnOk result (out.new.items
+        ≡ out.old.items ++ listed (verif_operands kind args.now code text.now)) }
 {
     let before = first_of(args, count_before(kind));
     put_exprs(alloc, out, true, before)?;
@@ -205,7 +217,7 @@ fn put_verif(
     alloc: Global,
     out: &mut Vec<u8>,
     kind: VerifKind,
-    args: &[Expr],
+    args: &Seq<Expr>,
     code: u128,
     text: &Name,
     label: &Option<Name>,
@@ -214,7 +226,7 @@ fn put_verif(
 {
     put(out, kind_word(kind).as_bytes())?;
     put(out, b"(")?;
-    put_verif_operands(alloc, out, kind, args, code, text)?;
+    put_verif_operands(alloc, out, kind, args.items(), code, text)?;
     put(out, b")")?;
     put_label(out, label)?;
     Ok(())
@@ -271,8 +283,7 @@ fn put_stmt(alloc: Global, out: &mut Vec<u8>, indent: &[u8], stmt: &Stmt) -> Res
             Ok(())
         }
         Stmt::Invalid { line: _, sink } => {
-            put(out, b"invalidate ")?;
-            put_expr(alloc, out, sink)?;
+            put_invalid(alloc, out, sink)?;
             put(out, b"\n")?;
             Ok(())
         }
@@ -289,7 +300,8 @@ fn put_stmt(alloc: Global, out: &mut Vec<u8>, indent: &[u8], stmt: &Stmt) -> Res
             Ok(())
         }
         Stmt::Skip { line: _ } => {
-            put(out, b"skip\n")?;
+            put(out, b"skip")?;
+            put(out, b"\n")?;
             Ok(())
         }
         Stmt::Verif {
@@ -300,7 +312,7 @@ fn put_stmt(alloc: Global, out: &mut Vec<u8>, indent: &[u8], stmt: &Stmt) -> Res
             text,
             label,
         } => {
-            put_verif(alloc, out, *kind, args.items(), *code, text, label)?;
+            put_verif(alloc, out, *kind, args, *code, text, label)?;
             put(out, b"\n")?;
             Ok(())
         }
@@ -318,16 +330,9 @@ fn deeper_than(alloc: Global, indent: &[u8]) -> Result<Vec<u8>, Memory>
 
 /// Puts a block one level deeper than `indent` behind the text.
 #[cycle(print_stmt)]
-fn put_block(
-    alloc: Global,
-    out: &mut Vec<u8>,
-    indent: &[u8],
-    stmts: &[Stmt],
-) -> Result<(), Memory>
-    ensures {
-        OnOk result (out.new.items
-            ≡ out.old.items ++ block_text (map stmt_text stmts.now) (deeper indent.now))
-    }
+fn put_block(alloc: Global, out: &mut Vec<u8>, indent: &[u8], stmts: &[Stmt]) -> Result<(), Memory>
+    ensures { OnOk result (out.new.items
+        ≡ out.old.items ++ block_text (map stmt_text stmts.now) (deeper indent.now)) }
 {
     let inner = deeper_than(alloc, indent)?;
     put_stmts(alloc, out, inner.as_slice(), stmts)?;
@@ -355,9 +360,7 @@ pub(crate) fn put_stmts(
     indent: &[u8],
     stmts: &[Stmt],
 ) -> Result<(), Memory>
-    ensures {
-        OnOk result (out.new.items ≡ out.old.items ++ block_text (map stmt_text stmts.now) indent.now)
-    }
+    ensures { OnOk result (out.new.items ≡ out.old.items ++ block_text (map stmt_text stmts.now) indent.now) }
 {
     for stmt in stmts {
         put_stmt(alloc, out, indent, stmt)?;
