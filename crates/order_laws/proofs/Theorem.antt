@@ -66,20 +66,20 @@ module _ (S : Steps) (L : StepLaws S) where
   settled_fine : (r : (runs S).State) → Settled r → Fine r
   settled_fine (going t w) h = tt
   settled_fine (settled t e) h = tt
-  settled_fine (conflicted w) h = absurd h
-  settled_fine (bounded w) h = absurd h
+  settled_fine (conflicted tw w) h = absurd h
+  settled_fine (bounded tw w) h = absurd h
 
   settled_quiet : (r : (runs S).State) → Settled r → Quiet (runs S) r
   settled_quiet (going t w) h = absurd h
   settled_quiet (settled t e) h = λ a k. k
-  settled_quiet (conflicted w) h = absurd h
-  settled_quiet (bounded w) h = absurd h
+  settled_quiet (conflicted tw w) h = absurd h
+  settled_quiet (bounded tw w) h = absurd h
 
   settled_alike : (r s : (runs S).State) → RunAlike S r s → Settled s → Settled r
   settled_alike (going t w) (going t' v) h k = absurd k
   settled_alike (settled t w) (settled t' v) h k = tt
-  settled_alike (conflicted w) (conflicted v) h k = absurd k
-  settled_alike (bounded w) (bounded v) h k = absurd k
+  settled_alike (conflicted tw w) (conflicted tv v) h k = absurd k
+  settled_alike (bounded tw w) (bounded tv v) h k = absurd k
   settled_alike _ _ h k = absurd h
 
   -- a fine end shows that each act before it was clean
@@ -87,14 +87,14 @@ module _ (S : Steps) (L : StepLaws S) where
   not_fine_stays [] r n f = n f
   not_fine_stays (a ∷ o) (going t w) n f = n tt
   not_fine_stays (a ∷ o) (settled t e) n f = n tt
-  not_fine_stays (a ∷ o) (conflicted w) n f = not_fine_stays o (conflicted w) (λ k. k) f
-  not_fine_stays (a ∷ o) (bounded w) n f = not_fine_stays o (bounded w) (λ k. k) f
+  not_fine_stays (a ∷ o) (conflicted tw w) n f = not_fine_stays o (conflicted tw w) (λ k. k) f
+  not_fine_stays (a ∷ o) (bounded tw w) n f = not_fine_stays o (bounded tw w) (λ k. k) f
 
   fine_or_not : (r : (runs S).State) → Fine r ⊎ (Fine r → ⊥)
   fine_or_not (going t w) = inl tt
   fine_or_not (settled t e) = inl tt
-  fine_or_not (conflicted w) = inr (λ k. k)
-  fine_or_not (bounded w) = inr (λ k. k)
+  fine_or_not (conflicted tw w) = inr (λ k. k)
+  fine_or_not (bounded tw w) = inr (λ k. k)
 
   clean_before : (o : List S.world.Actor) (r : (runs S).State) → Fine (after (runs S) r o) → AllClean (runs S) r o
   clean_before [] r f = tt
@@ -120,15 +120,15 @@ module _ (S : Steps) (L : StepLaws S) where
   times_alike : (r s : (runs S).State) → RunAlike S r s → times_of r ≡ times_of s
   times_alike (going t w) (going t' v) h = h.0
   times_alike (settled t w) (settled t' v) h = h.0
-  times_alike (conflicted w) (conflicted v) h = refl
-  times_alike (bounded w) (bounded v) h = refl
+  times_alike (conflicted tw w) (conflicted tv v) h = h
+  times_alike (bounded tw w) (bounded tv v) h = h
   times_alike _ _ h = absurd h
 
   one_more : (time : ℕ) (r : (runs S).State) (a : S.world.Actor) → RunEnabled S r a → Fine (run_act S r a) → actions_at time r ≤ actions_at time (run_act S r a)
   one_more time (going t w) a h f = subst (λ x. count_by (nat_eq time) t ≤ count_by (nat_eq time) x) (sym (times_judge (S.time w ∷ t) (S.world.act w a) (S.conflict w a) f)) (count_more time (S.time w) t)
   one_more time (settled t e) a h f = absurd h
-  one_more time (conflicted w) a h f = absurd h
-  one_more time (bounded w) a h f = absurd h
+  one_more time (conflicted tw w) a h f = absurd h
+  one_more time (bounded tw w) a h f = absurd h
 
   no_more_than : (time n : ℕ) (r t : (runs S).State) → Left (runs S) n r t → actions_at time r ≤ actions_at time t
   no_more_than time zero r t (quiet, same) = subst (λ x. count_by (nat_eq time) (times_of r) ≤ count_by (nat_eq time) x) (times_alike r t same) (le_refl (count_by (nat_eq time) (times_of r)))
