@@ -12,7 +12,7 @@ use Rattle.bench_model.specs.Paths.{Path, path_cmp, is_path, child}
 use Rattle.bench_model.specs.World.{Thread, World, Enabled, Possible, act}
 use Rattle.bench_model.specs.World.Mode.{running, at_join}
 use Rattle.bench_model.specs.Settle.{Setting, SettingLaws, Finish, Ending, Limits, quiet, first_spent, or_spent, ended, limited, verdict, next_step, settle_on, settle_by, settle_from, settle, steps, fails_now}
-use Rattle.bench_model.specs.Orders.{Permits, start, replay, first_order, first_world, root_thread, act_bound, least_of_run, OrdersWithin, WithinLimits}
+use Rattle.bench_model.specs.Orders.{Permits, start, replay, first_order, first_world, root_thread, act_bound, least_of_run, OrdersWithin}
 use Rattle.bench_model.proofs.PathFacts.{path_order, is_path_refl, is_path_same, below_itself, child_is}
 use Rattle.bench_model.proofs.SettleFacts.{size_of, time_of, not_quiet}
 use Rattle.bench_model.proofs.LeastFacts.{least_run_enabled, least_awake}

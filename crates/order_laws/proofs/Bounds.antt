@@ -1,11 +1,11 @@
 -- A permitted order has at most `bound` (at least 1) actions in each time step, and none at or past the limit of time steps.
-use Rattle.std.proofs.Common.{◌≡◌, ◌⊎◌, inl, inr, ℕ, zero, suc, ◌+◌, ◌<◌, ◌≤◌, max, List, [], ◌∷◌, refl, sym, ap, subst, ◌∙◌, arith, Bool, true, false, nat_le, nat_eq, cond, count_by, filter, length, leb-false, eqb-true, eq-eqb, ne_eqb, le_trans}
+use Rattle.std.proofs.Common.{◌≡◌, ◌⊎◌, inl, inr, ℕ, suc, ◌<◌, ◌≤◌, max, List, [], ◌∷◌, refl, sym, ap, subst, ◌∙◌, arith, Bool, true, false, nat_le, nat_eq, cond, count_by, filter, length, leb-false, eqb-true, eq-eqb, ne_eqb, le_trans}
 use Rattle.std.proofs.Math.Nat.{le-max_right, le-max_left}
 use Rattle.std.proofs.lemmas.Bool.{eqb-false}
 use Rattle.std.proofs.lemmas.List.Sums.{length-filter}
 use Rattle.order_laws.specs.System.{Permitted, after}
-use Rattle.order_laws.specs.Runs.{Steps, Run, going, settled, conflicted, bounded, settle_to, look, judge, run_act, runs}
-use Rattle.order_laws.specs.EveryOrder.{times_of, actions_at}
+use Rattle.order_laws.specs.Runs.{Steps, going, settled, conflicted, bounded, settle_to, look, judge, run_act, runs}
+use Rattle.order_laws.specs.EveryOrder.{times_of}
 use Rattle.order_laws.proofs.Ends.{GoesOn}
 
 -- the list with one more time
