@@ -1,5 +1,5 @@
 -- Conflicts by places: what is said of a new event by the tests is what the definitions say of the whole log.
-use Rattle.std.proofs.Common.{◌≡◌, ◌⊎◌, ⊎_elim, inl, inr, ℕ, suc, ◌<◌, ◌≤◌, List, [], ◌∷◌, length, Bool, true, false, ◌||◌, Option, Some, None, option_map, is_some, cond, refl, sym, ap, subst, ◌∙◌, arith, eq-eqb, ne_eqb}
+use Rattle.std.proofs.Common.{◌≡◌, ◌⊎◌, ⊎_elim, inl, inr, ℕ, ◌<◌, ◌≤◌, List, [], ◌∷◌, length, Bool, true, false, ◌||◌, Option, Some, None, option_map, is_some, cond, refl, sym, ap, subst, ◌∙◌, arith, eq-eqb, ne_eqb}
 use Rattle.std.proofs.lemmas.Bool.{or_right, or_cases}
 use Rattle.bench_model.specs.Log.{Event, LeadsTo, place, link, clash, leads_to_any, scan, conflicts, or_here, least_scan, least_place, event_at}
 use Rattle.bench_model.specs.Conflict.{HasAt, IsBefore, Conflict, IsFirstPair, IsFree}
@@ -76,9 +76,6 @@ module _ (cone : ℕ → ℕ → Bool) (e : Event) (log : List Event) where
 abbrev pub AllFree : (ℕ → ℕ → Bool) → List Event → Type 0
 AllFree cone [] = Unit {0}
 AllFree cone (e ∷ log) = (conflicts cone log e ≡ false) × AllFree cone log
-
-split_below : (l n : ℕ) → l < suc n → (l < n) ⊎ (l ≡ n)
-split_below l n h = grind arith
 
 pub free_of : (cone : ℕ → ℕ → Bool) (log : List Event) → AllFree cone log → IsFree cone log
 free_of cone [] f k l n c = absurd c.second_at

@@ -4,14 +4,15 @@ use Rattle.std.proofs.Math.Nat.{le-max_left, le-max_right}
 use Rattle.std.specs.List.{list_any}
 use Rattle.std.specs.FinMap as map
 use Rattle.order_laws.specs.Runs.{going, runs}
-use Rattle.order_laws.specs.EveryOrder.{IsOver}
+use Rattle.order_laws.specs.EveryOrder.{IsOver, times_of}
+use Rattle.order_laws.proofs.Bounds.{WithinBounds, within_bounds}
 use Rattle.order_laws.proofs.Ends.{GoesOn, Within, ends, chosen_length}
 use Rattle.order_laws.proofs.Theorem.{chosen_permitted}
 use Rattle.bench_model.specs.Paths.{Path, path_cmp, is_path, child}
 use Rattle.bench_model.specs.World.{Thread, World, Enabled, Possible, act}
 use Rattle.bench_model.specs.World.Mode.{running, at_join}
 use Rattle.bench_model.specs.Settle.{Setting, SettingLaws, Finish, Ending, Limits, quiet, first_spent, or_spent, ended, limited, verdict, next_step, settle_on, settle_by, settle_from, settle, steps, fails_now}
-use Rattle.bench_model.specs.Orders.{Permits, start, replay, first_order, first_world, root_thread, act_bound, least_of_run}
+use Rattle.bench_model.specs.Orders.{Permits, start, replay, first_order, first_world, root_thread, act_bound, least_of_run, OrdersWithin}
 use Rattle.bench_model.proofs.PathFacts.{path_order, is_path_refl, is_path_same, below_itself, child_is}
 use Rattle.bench_model.proofs.SettleFacts.{size_of, time_of, not_quiet}
 use Rattle.bench_model.proofs.LeastFacts.{least_run_enabled, least_awake}
@@ -116,6 +117,13 @@ module _ (S : Setting) (L : SettingLaws S) where
 
   first_within : Within (steps S) (limit S) (λ r. least_of_run r) act_size act_time settles_on (least_awake S) (act_bound S) (start S)
   first_within = (le-max_left 1 S.limits.time_steps, le-max_left 1 S.limits.step_actions, not_quiet S L.model (first_world S) [] first_enabled_root, bound_is (limit S) (max 1 S.limits.step_actions))
+
+  -- EVERY PERMITTED ORDER is within the limits
+  pub orders_within : OrdersWithin S
+  orders_within order ok =
+      let b : WithinBounds (max 1 S.limits.step_actions) (limit S) (times_of (replay S order)) =
+      within_bounds (steps S) (limit S) (size_of S L.model) act_time (λ w. on_from S (suc S.limits.time_steps) w) (first_world S) refl (le-max_left 1 S.limits.time_steps) order ok in
+      record { each = b.each; none = b.none }
 
   -- THE ONE-THREAD ORDER has an outcome
   pub first_over : IsOver (replay S (first_order S))

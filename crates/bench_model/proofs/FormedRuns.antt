@@ -18,8 +18,8 @@ module _ (S : Setting) (L : SettingLaws S) where
   abbrev RunTied : RunOf S → Type 0
   RunTied (going t w) = Tied S.model L.model w
   RunTied (settled t e) = Unit {0}
-  RunTied (conflicted w) = Unit {0}
-  RunTied (bounded w) = Unit {0}
+  RunTied (conflicted tw w) = Unit {0}
+  RunTied (bounded tw w) = Unit {0}
 
   tied_settled : (t : List ℕ) (x : World S.model.Inner ⊎ Finish) → Empties S x → RunTied (settle_to (steps S) t x)
   tied_settled t (inl w) e = tied_empty S.model L.model w e
@@ -40,8 +40,8 @@ module _ (S : Setting) (L : SettingLaws S) where
       tied_run order (run_act (steps S) (going t w) a) (run_possible (steps S) (step_laws S L.model) (going t w) a p e)
       (tied_judge (w.time ∷ t) (act S.model w a) (conflict_of S.model w a (map.get w.threads a)) (tied_act S.model L.model w a p h e)) ok
   tied_run (a ∷ order) (settled t f) p h (e, ok) = absurd e
-  tied_run (a ∷ order) (conflicted w) p h (e, ok) = absurd e
-  tied_run (a ∷ order) (bounded w) p h (e, ok) = absurd e
+  tied_run (a ∷ order) (conflicted tw w) p h (e, ok) = absurd e
+  tied_run (a ∷ order) (bounded tw w) p h (e, ok) = absurd e
 
   pub reached_tied : (order : List Path) (times : List ℕ) (w : World S.model.Inner) → Permits S order → replay S order ≡ going times w → Tied S.model L.model w
   reached_tied order times w ok at = subst RunTied at (tied_run order (start S) (first_possible S L) (tied_empty S.model L.model (first_world S) refl) ok)

@@ -165,14 +165,14 @@ module _ (S : Setting) where
   pub least_run_enabled : (r : Run (World S.model.Inner) Finish) (p : Path) → least_of_run r ≡ Some p → RunEnabled (steps S) r p
   least_run_enabled (going t w) p e = least_enabled S.model.Inner w (map.keys w.threads) p e
   least_run_enabled (settled t f) p e = absurd (cc)
-  least_run_enabled (conflicted w) p e = absurd (cc)
-  least_run_enabled (bounded w) p e = absurd (cc)
+  least_run_enabled (conflicted tw w) p e = absurd (cc)
+  least_run_enabled (bounded tw w) p e = absurd (cc)
 
   pub least_run_all : (r : Run (World S.model.Inner) Finish) → least_of_run r ≡ None → Quiet (runs (steps S)) r
   least_run_all (going t w) e = λ p h. least_all S.model.Inner w (map.keys w.threads) e p (least_there S.model.Inner w p h) h
   least_run_all (settled t f) e = λ p h. h
-  least_run_all (conflicted w) e = λ p h. h
-  least_run_all (bounded w) e = λ p h. h
+  least_run_all (conflicted tw w) e = λ p h. h
+  least_run_all (bounded tw w) e = λ p h. h
 
   -- somebody is chosen where somebody runs
   pub least_awake : (times : List ℕ) (w : World S.model.Inner) → quiet w ≡ false → least_of_run (going times w) ≡ None → ⊥

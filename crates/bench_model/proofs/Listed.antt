@@ -310,8 +310,8 @@ module _ (S : Setting) where
       option_same None = refl
       option_same (Some p) = refl
   same_choice (settled times e) = refl
-  same_choice (conflicted w) = refl
-  same_choice (bounded w) = refl
+  same_choice (conflicted tw w) = refl
+  same_choice (bounded tw w) = refl
 
   abbrev pub listed_first : List Path
   listed_first = chosen (runs listed_steps) (λ r. least_row r) (act_bound S) listed_start
@@ -326,14 +326,14 @@ module _ (S : Setting) where
   abbrev pub listed_run_of : Run Rowed Finish → Option Result
   listed_run_of (going times w) = None
   listed_run_of (settled times e) = Some (record { records = sorted record_le e.records; samples = reverse e.samples; actions = e.actions; outcome = settles e.time e.ending })
-  listed_run_of (conflicted w) = option_map (λ pair. record { records = sorted record_le w.records; samples = reverse w.samples; actions = w.actions; outcome = conflict w.time pair.0 pair.1 }) (named_pair S.model.cone w.log)
-  listed_run_of (bounded w) = Some (record { records = sorted record_le w.records; samples = reverse w.samples; actions = w.actions; outcome = step_limit w.time })
+  listed_run_of (conflicted tw w) = option_map (λ pair. record { records = sorted record_le w.records; samples = reverse w.samples; actions = w.actions; outcome = conflict w.time pair.0 pair.1 }) (named_pair S.model.cone w.log)
+  listed_run_of (bounded tw w) = Some (record { records = sorted record_le w.records; samples = reverse w.samples; actions = w.actions; outcome = step_limit w.time })
 
   pub run_listed : (r : RunOf S) → run_of S r ≡ listed_run_of (map_run listed (λ e. e) r)
   run_listed (going times w) = refl
   run_listed (settled times e) = refl
-  run_listed (conflicted w) = refl
-  run_listed (bounded w) = refl
+  run_listed (conflicted tw w) = refl
+  run_listed (bounded tw w) = refl
 
   -- WHAT AN ORDER GIVES, and what the one-thread order gives, as they are computed
   pub run_computed : (order : List Path) → run_of S (replay S order) ≡ listed_run_of (listed_replay order)

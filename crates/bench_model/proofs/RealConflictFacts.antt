@@ -17,8 +17,8 @@ IsFirstConflict cone (e ∷ log) = (conflicts cone log e ≡ true) × AllFree co
 abbrev pub IsReal : {I : Type 0} → (ℕ → ℕ → Bool) → Run (World I) Finish → Type 0
 IsReal cone (going times w) = AllFree cone w.log
 IsReal cone (settled times e) = Unit {0}
-IsReal cone (conflicted w) = IsFirstConflict cone w.log
-IsReal cone (bounded w) = AllFree cone w.log
+IsReal cone (conflicted tw w) = IsFirstConflict cone w.log
+IsReal cone (bounded tw w) = AllFree cone w.log
 
 module _ (S : Setting) where
   -- a new time step has an empty log
@@ -56,8 +56,8 @@ module _ (S : Setting) where
   real_act : (r : Run (World S.model.Inner) Finish) (p : Path) → IsReal S.model.cone r → IsReal S.model.cone (run_act (steps S) r p)
   real_act (going t w) p h = real_judge (w.time ∷ t) w p (map.get w.threads p) (conflict_of S.model w p (map.get w.threads p)) refl h
   real_act (settled t e) p h = h
-  real_act (conflicted w) p h = h
-  real_act (bounded w) p h = h
+  real_act (conflicted tw w) p h = h
+  real_act (bounded tw w) p h = h
 
   -- WHERE A RUN MEETS A CONFLICT, it is that of the newest event, and the first of its time step
   pub real_after : (o : List Path) (r : Run (World S.model.Inner) Finish) → IsReal S.model.cone r → IsReal S.model.cone (after (runs (steps S)) r o)

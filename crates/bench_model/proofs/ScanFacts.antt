@@ -124,9 +124,6 @@ conflicts_placed cone e log = conflicts_not ℕ place place_new cone e log
 
 -- ---- the least place
 module _ (cone : ℕ → ℕ → Bool) (e : Event) where
-  LeadsPast : List Event → List Event → ℕ → Type 0
-  LeadsPast log past i = LeadsAny ℕ place place_new log past i
-
   pub record ConflictAt (log past : List Event) (i : ℕ) : Type 0 where
     pub event : Event
     pub at : AtBy place log i event

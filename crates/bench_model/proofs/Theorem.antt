@@ -17,7 +17,7 @@ use Rattle.bench_model.proofs.SortingFacts.{sorted_permutation}
 use Rattle.bench_model.proofs.RecordOrder.{record_order}
 use Rattle.bench_model.proofs.ConflictFacts.{free_of, Named, named}
 use Rattle.bench_model.proofs.RealConflictFacts.{IsFirstConflict, IsReal, real_after}
-use Rattle.bench_model.proofs.FirstOrder.{first_possible, first_permitted, first_over, first_short}
+use Rattle.bench_model.proofs.FirstOrder.{first_possible, first_permitted, first_over, first_short, orders_within}
 
 module _ (S : Setting) (L : SettingLaws S) where
   -- alike runs that have settled give the same
@@ -48,8 +48,8 @@ module _ (S : Setting) (L : SettingLaws S) where
   over_fine : (r : RunOf S) → IsOver r → Fine r → Settled r
   over_fine (going t w) h f = absurd h
   over_fine (settled t e) h f = tt
-  over_fine (conflicted w) h f = absurd f
-  over_fine (bounded w) h f = absurd f
+  over_fine (conflicted tw w) h f = absurd f
+  over_fine (bounded tw w) h f = absurd f
 
   -- ANY CLEAN ORDER WILL DO
   pub any_clean_order : AnyCleanOrder S
@@ -58,27 +58,27 @@ module _ (S : Setting) (L : SettingLaws S) where
       (first_permitted S L, over_fine (replay S (first_order S)) (first_over S L) f.clean)
 
   -- ---- real conflicts
-  pair_result : (w : World S.model.Inner) (d e : Event) → named_pair S.model.cone w.log ≡ Some (d, e) → run_of S (conflicted w) ≡ Some (world_result w (conflict w.time d e))
-  pair_result w d e h = ap (option_map (λ (pair : Event × Event). world_result w (conflict w.time pair.0 pair.1))) h
+  pair_result : (t : List ℕ) (w : World S.model.Inner) (d e : Event) → named_pair S.model.cone w.log ≡ Some (d, e) → run_of S (conflicted t w) ≡ Some (world_result w (conflict w.time d e))
+  pair_result t w d e h = ap (option_map (λ (pair : Event × Event). world_result w (conflict w.time pair.0 pair.1))) h
 
-  real_at : (order : List Path) (w : World S.model.Inner) → replay S order ≡ conflicted w → (log : List Event) → w.log ≡ log → IsFirstConflict S.model.cone log → RealConflict S order w
-  real_at order w at [] is h = absurd h
-  real_at order w at (e ∷ log) is (c, f) =
+  real_at : (order : List Path) (t : List ℕ) (w : World S.model.Inner) → replay S order ≡ conflicted t w → (log : List Event) → w.log ≡ log → IsFirstConflict S.model.cone log → RealConflict S order w
+  real_at order t w at [] is h = absurd h
+  real_at order t w at (e ∷ log) is (c, f) =
       let n : Named S.model.cone e log = named S.model.cone e log c f in
       record {
         earlier = log;
         first = n.first;
         second = e;
         log_is = is;
-        named = ap (run_of S) at ∙ pair_result w n.first e (ap (named_pair S.model.cone) is ∙ n.is_named);
+        named = ap (run_of S) at ∙ pair_result t w n.first e (ap (named_pair S.model.cone) is ∙ n.is_named);
         spot = n.spot;
         stands = subst (λ l. HasAt l n.spot n.first) (sym is) n.stands;
         pair = subst (λ l. IsFirstPair S.model.cone l n.spot (length log)) (sym is) n.pair;
         free = free_of S.model.cone log f;
       }
 
-  pub real_conflict : (order : List Path) (w : World S.model.Inner) → replay S order ≡ conflicted w → RealConflict S order w
-  real_conflict order w at = real_at order w at w.log refl (subst (IsReal S.model.cone) at (real_after S order (start S) tt))
+  pub real_conflict : (order : List Path) (t : List ℕ) (w : World S.model.Inner) → replay S order ≡ conflicted t w → RealConflict S order w
+  real_conflict order t w at = real_at order t w at w.log refl (subst (IsReal S.model.cone) at (real_after S order (start S) tt))
 
   -- where one permitted order isn't clean, none settles
   pub none_settles : (order : List Path) → Permits S order → (Fine (replay S order) → ⊥) → (other : List Path) → Permits S other → Settles S other → ⊥
@@ -86,21 +86,21 @@ module _ (S : Setting) (L : SettingLaws S) where
 
   -- REAL CONFLICTS
   pub real_conflicts : RealConflicts S
-  real_conflicts order ok w at = (real_conflict order w at, none_settles order ok (λ f. subst Fine at f))
+  real_conflicts order ok t w at = (real_conflict order t w at, none_settles order ok (λ f. subst Fine at f))
 
   -- ---- the one-thread order ends
   result_of : (order : List Path) (r : RunOf S) → replay S order ≡ r → IsOver r → (x : Result) × (run_of S (replay S order) ≡ Some x)
   result_of order (going t w) at h = absurd h
   result_of order (settled t e) at h = (_, ap (run_of S) at)
-  result_of order (conflicted w) at h = let c : RealConflict S order w = real_conflict order w at in (_, c.named)
-  result_of order (bounded w) at h = (_, ap (run_of S) at)
+  result_of order (conflicted tw w) at h = let c : RealConflict S order w = real_conflict order tw w at in (_, c.named)
+  result_of order (bounded tw w) at h = (_, ap (run_of S) at)
 
   -- each order that has an outcome gives a result
   pub over_result : (order : List Path) → IsOver (replay S order) → (x : Result) × (run_of S (replay S order) ≡ Some x)
   over_result order h = result_of order (replay S order) refl h
 
   pub first_order_ends : FirstOrderEnds S
-  first_order_ends = record { permitted = first_permitted S L; over = first_over S L; result = over_result (first_order S) (first_over S L); short = first_short S L }
+  first_order_ends = record { permitted = first_permitted S L; over = first_over S L; result = over_result (first_order S) (first_over S L); short = first_short S L; within = orders_within S L (first_order S) (first_permitted S L) }
 
   -- each world that a permitted order reaches is possible
   pub reached_possible : (order : List Path) (times : List ℕ) (w : World S.model.Inner) → Permits S order → replay S order ≡ going times w → Possible S.model w

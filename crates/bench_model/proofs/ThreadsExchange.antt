@@ -183,9 +183,6 @@ module _ (I : Type 0) (ts : Threads I) (a b : Path) (tb : Thread I) (ne : a ≡ 
 
   -- THE THREAD THAT ACTS is the same, whether the other acted before or after
   module _ (ta : Thread I) (mb : Move I) (xa xb : ℕ) (away : Away (newborn b tb mb) a) where
-    OwnAt : Move I → Type 0
-    OwnAt ma = born_at (newborn b tb mb) a (woken_at (wakes b mb) a (self_after ta ma xa (is_there ts a ma))) ≡ self_after ta ma xa (is_there (threads_after ts b tb mb xb) a ma)
-
     stays_self : (s : Option (Thread I)) → ((k : ℕ) → option_map (woken k) s ≡ s) → born_at (newborn b tb mb) a (woken_at (wakes b mb) a s) ≡ s
     stays_self s h = untouched I (side_of I b tb mb) a away s h
 

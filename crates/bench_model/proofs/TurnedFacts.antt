@@ -99,8 +99,8 @@ module _ (S : Setting) where
     conflicted_same : (r : RunOf S) → is_conflicted r ≡ is_conflicted (map_run {V = Listed S.model.Inner} {F = Finish} listed (λ e. e) r)
     conflicted_same (going t w) = refl
     conflicted_same (settled t e) = refl
-    conflicted_same (conflicted w) = refl
-    conflicted_same (bounded w) = refl
+    conflicted_same (conflicted tw w) = refl
+    conflicted_same (bounded tw w) = refl
 
     pub conflict_computed : (order : List Path) → turned_conflicts S T order ≡ is_conflicted (after (runs turned_rows) (listed_start S) order)
     conflict_computed order = conflicted_same (after (runs (turned_steps S T)) (start S) order) ∙ ap is_conflicted (after_turned order)
@@ -119,8 +119,8 @@ module _ (S : Setting) where
   enabled_run : (r : RunOf S) (p : Path) → enabled_in r p ≡ enabled_rows (map_run listed (λ e. e) r) p
   enabled_run (going t w) p = enabled_same w (map.get w.threads p) ∙ ap (enabled_row (map.entries w.threads)) (map.get-entries w.threads p)
   enabled_run (settled t e) p = refl
-  enabled_run (conflicted w) p = refl
-  enabled_run (bounded w) p = refl
+  enabled_run (conflicted tw w) p = refl
+  enabled_run (bounded tw w) p = refl
 
   pub enabled_computed : (order : List Path) (p : Path) → enabled_in (replay S order) p ≡ enabled_rows (listed_replay S order) p
   enabled_computed order p = enabled_run (replay S order) p ∙ ap (λ r. enabled_rows r p) (replay_listed S order)
@@ -132,8 +132,8 @@ module _ (S : Setting) where
   running_run : (r : RunOf S) (p : Path) → running_in r p ≡ running_rows (map_run listed (λ e. e) r) p
   running_run (going t w) p = ap runs_by (map.get-entries w.threads p)
   running_run (settled t e) p = refl
-  running_run (conflicted w) p = refl
-  running_run (bounded w) p = refl
+  running_run (conflicted tw w) p = refl
+  running_run (bounded tw w) p = refl
 
   pub running_computed : (order : List Path) (p : Path) → running_in (replay S order) p ≡ running_rows (listed_replay S order) p
   running_computed order p = running_run (replay S order) p ∙ ap (λ r. running_rows r p) (replay_listed S order)

@@ -113,8 +113,8 @@ world_result w o = record { records = sorted record_le w.records; samples = reve
 abbrev pub run_of : (S : Setting) → RunOf S → Option Result
 run_of S (going times w) = None
 run_of S (settled times e) = Some (record { records = sorted record_le e.records; samples = reverse e.samples; actions = e.actions; outcome = settles e.time e.ending })
-run_of S (conflicted w) = option_map (λ pair. world_result w (conflict w.time pair.0 pair.1)) (named_pair S.model.cone w.log)
-run_of S (bounded w) = Some (world_result w (step_limit w.time))
+run_of S (conflicted times w) = option_map (λ pair. world_result w (conflict w.time pair.0 pair.1)) (named_pair S.model.cone w.log)
+run_of S (bounded times w) = Some (world_result w (step_limit w.time))
 
 -- the actions of an order in a time step
 abbrev pub actions_in : (S : Setting) → (time : ℕ) → List Path → ℕ
@@ -143,12 +143,22 @@ EveryOrder S = (order other : List Path) → Permits S order → Settles S order
 abbrev pub AnyCleanOrder : Setting → Type 0
 AnyCleanOrder S = (order : List Path) → Permits S order → Settles S order → Permits S (first_order S) × Settles S (first_order S)
 
--- THE ONE-THREAD ORDER ENDS: it is permitted, has an outcome, and has no more acts than the bound
+-- an order has no more actions in any time step than their limit, at least 1, and none at or past the limit of time steps, at least 1
+pub record WithinLimits (S : Setting) (order : List Path) : Type 0 where
+  pub each : (time : ℕ) → actions_in S time order ≤ max 1 S.limits.step_actions
+  pub none : (time : ℕ) → max 1 S.limits.time_steps ≤ time → actions_in S time order ≡ 0
+
+-- EVERY PERMITTED ORDER is within the limits, with or without an outcome
+abbrev pub OrdersWithin : Setting → Type 0
+OrdersWithin S = (order : List Path) → Permits S order → WithinLimits S order
+
+-- THE ONE-THREAD ORDER ENDS: it is permitted, has an outcome and so a result, and has no more acts than the bound
 pub record FirstOrderEnds (S : Setting) : Type 0 where
   pub permitted : Permits S (first_order S)
   pub over : IsOver (replay S (first_order S))
   pub result : (r : Result) × (run_of S (replay S (first_order S)) ≡ Some r)
   pub short : length (first_order S) ≤ act_bound S
+  pub within : WithinLimits S (first_order S)
 
 -- what is said of the conflict of a run that stands at w
 pub record RealConflict (S : Setting) (order : List Path) (w : World S.model.Inner) : Type 0 where
@@ -168,7 +178,7 @@ pub record RealConflict (S : Setting) (order : List Path) (w : World S.model.Inn
 
 -- REAL CONFLICTS: where a permitted order meets a conflict, the pair is real, and no permitted order settles
 abbrev pub RealConflicts : Setting → Type 0
-RealConflicts S = (order : List Path) → Permits S order → (w : World S.model.Inner) → replay S order ≡ conflicted w →
+RealConflicts S = (order : List Path) → Permits S order → (times : List ℕ) (w : World S.model.Inner) → replay S order ≡ conflicted times w →
     RealConflict S order w × ((other : List Path) → Permits S other → Settles S other → ⊥)
 
 -- THE LOG IS FORMED: in each world that a permitted order reaches, and after the act of each enabled thread there

@@ -68,7 +68,7 @@ outcome_of (Some r) = Some r.outcome
 
 -- an order meets a conflict, so turned
 abbrev pub is_conflicted : {W E : Type 0} → Run W E → Bool
-is_conflicted (conflicted w) = true
+is_conflicted (conflicted times w) = true
 is_conflicted _ = false
 
 abbrev pub turned_conflicts : (S : Setting) → Turn S → List Path → Bool

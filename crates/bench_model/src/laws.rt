@@ -7,7 +7,7 @@ ghost use Rattle.bench_model.specs.Log.{Event};
 ghost use Rattle.bench_model.specs.Formed.{Formed, IsBeforeAnywhere};
 ghost use Rattle.bench_model.specs.Conflict.{IsBefore};
 ghost use Rattle.bench_model.specs.TwoMoves.{AlikeWorlds, StaysEnabled, Exchanges, EnabledBefore};
-ghost use Rattle.bench_model.specs.Orders.{LogsFormed, EveryOrder, AnyCleanOrder, RealConflicts, FirstOrderEnds};
+ghost use Rattle.bench_model.specs.Orders.{LogsFormed, EveryOrder, AnyCleanOrder, RealConflicts, OrdersWithin, FirstOrderEnds};
 ghost use Rattle.std.specs.Prelude.{List, ◌↔◌, ℕ};
 
 /// Worlds that are equal but for the order of their records and of their logs have the same enabled threads; the act of one
@@ -57,8 +57,14 @@ pub fn real_conflict()
     ensures { AtEachTest RealConflicts }
 {}
 
-/// The one-thread order is permitted and has an outcome, after no more actions than the limit of a time step, which counts as at
-/// least 1, in each of no more time steps than their limit, which counts as at least 1.
+/// Every permitted order has no more actions in any time step than their limit, and no action at or past the limit of time steps.
+/// Each of the two limits counts as at least 1.
+pub fn orders_within_limits()
+    ensures { AtEachTest OrdersWithin }
+{}
+
+/// The one-thread order is permitted and has an outcome and a result, after no more actions than the limit of a time step in each of
+/// no more time steps than their limit. Each of the two limits counts as at least 1.
 pub fn first_order_ends()
     ensures { AtEachTest FirstOrderEnds }
 {}

@@ -33,8 +33,8 @@ module _ (S : Steps) (limit : ℕ) (choose : (runs S).State → Option S.world.A
   abbrev pub Within : ℕ → (runs S).State → Type 0
   Within n (going t w) = (S.time w < limit) × (S.size w < max 1 S.bound) × (S.quiet w ≡ false) × ((limit - S.time w) * max 1 S.bound ≤ n + S.size w)
   Within n (settled t e) = Unit {0}
-  Within n (conflicted w) = Unit {0}
-  Within n (bounded w) = Unit {0}
+  Within n (conflicted tw w) = Unit {0}
+  Within n (bounded tw w) = Unit {0}
 
   within_settled : (n : ℕ) (t : List ℕ) (time : ℕ) (x : S.world.State ⊎ S.Finish) → GoesOn S limit time x → (limit - time) * max 1 S.bound ≤ n + max 1 S.bound → Within n (settle_to S t x)
   within_settled n t time (inl w) (later, below, none, awake) h =
@@ -53,8 +53,8 @@ module _ (S : Steps) (limit : ℕ) (choose : (runs S).State → Option S.world.A
   over_same : (r : (runs S).State) (a : S.world.Actor) → IsOver r → run_act S r a ≡ r
   over_same (going t w) a h = absurd h
   over_same (settled t e) a h = refl
-  over_same (conflicted w) a h = refl
-  over_same (bounded w) a h = refl
+  over_same (conflicted tw w) a h = refl
+  over_same (bounded tw w) a h = refl
 
   over_stays : (n : ℕ) (r : (runs S).State) → IsOver r → IsOver (after (runs S) r (chosen (runs S) choose n r))
   over_stays zero r h = h
@@ -79,5 +79,5 @@ module _ (S : Steps) (limit : ℕ) (choose : (runs S).State → Option S.world.A
           (within_judge n (S.time w ∷ t) (S.world.act w a) (S.conflict w a) (omega (arith, tm)) (omega (arith, sz))
           (subst (λ x. (limit - x) * max 1 S.bound ≤ n + S.size (S.world.act w a)) (sym tm) (omega (arith, sz))))
   ends n (settled t e) h = over_stays n (settled t e) tt
-  ends n (conflicted w) h = over_stays n (conflicted w) tt
-  ends n (bounded w) h = over_stays n (bounded w) tt
+  ends n (conflicted tw w) h = over_stays n (conflicted tw w) tt
+  ends n (bounded tw w) h = over_stays n (bounded tw w) tt

@@ -27,8 +27,8 @@ module _ (S T : Steps) (f : S.world.State → T.world.State) (g : S.Finish → T
       ∙ ap₂ (λ x v. judge T (x ∷ t) v (S.conflict w a)) (M.time w) (M.act w a)
       ∙ ap (judge T (T.time (f w) ∷ t) (T.world.act (f w) (h a))) (M.conflict w a)
   act_mirrors (settled t e) a = refl
-  act_mirrors (conflicted w) a = refl
-  act_mirrors (bounded w) a = refl
+  act_mirrors (conflicted tw w) a = refl
+  act_mirrors (bounded tw w) a = refl
 
   -- AFTER THE SAME ORDER both stand at the same
   pub after_mirrors : (order : List S.world.Actor) (r : (runs S).State) → map_run f g (after (runs S) r order) ≡ after (runs T) (map_run f g r) (map h order)

@@ -7,14 +7,14 @@ module _ (S : Steps) (L : StepLaws S) where
   refl_run : (r : (runs S).State) → RunAlike S r r
   refl_run (going times w) = (refl, L.world.alike_refl w)
   refl_run (settled times e) = (refl, L.finish_refl e)
-  refl_run (conflicted w) = tt
-  refl_run (bounded w) = tt
+  refl_run (conflicted tw w) = refl
+  refl_run (bounded tw w) = refl
 
   sym_run : (r s : (runs S).State) → RunAlike S r s → RunAlike S s r
   sym_run (going times w) (going times' w') (e, h) = (sym e, L.world.alike_sym w w' h)
   sym_run (settled times w) (settled times' w') (e, h) = (sym e, L.finish_sym w w' h)
-  sym_run (conflicted w) (conflicted w') h = tt
-  sym_run (bounded w) (bounded w') h = tt
+  sym_run (conflicted tw w) (conflicted tw' w') h = sym h
+  sym_run (bounded tw w) (bounded tw' w') h = sym h
   sym_run _ _ h = absurd h
 
   trans_run : (r s t : (runs S).State) → RunAlike S r s → RunAlike S s t → RunAlike S r t
@@ -22,24 +22,24 @@ module _ (S : Steps) (L : StepLaws S) where
   trans_run (going a w) (going b v) _ h k = absurd k
   trans_run (settled a w) (settled b v) (settled c u) (e, h) (f, k) = (e ∙ f, L.finish_trans w v u h k)
   trans_run (settled a w) (settled b v) _ h k = absurd k
-  trans_run (conflicted w) (conflicted v) (conflicted u) h k = tt
-  trans_run (conflicted w) (conflicted v) _ h k = absurd k
-  trans_run (bounded w) (bounded v) (bounded u) h k = tt
-  trans_run (bounded w) (bounded v) _ h k = absurd k
+  trans_run (conflicted tw w) (conflicted tv v) (conflicted tu u) h k = h ∙ k
+  trans_run (conflicted tw w) (conflicted tv v) _ h k = absurd k
+  trans_run (bounded tw w) (bounded tv v) (bounded tu u) h k = h ∙ k
+  trans_run (bounded tw w) (bounded tv v) _ h k = absurd k
   trans_run _ _ _ h k = absurd h
 
   fine_alike : (r s : (runs S).State) → RunAlike S r s → Fine r → Fine s
   fine_alike (going a w) (going b v) h f = tt
   fine_alike (settled a w) (settled b v) h f = tt
-  fine_alike (conflicted w) (conflicted v) h f = absurd f
-  fine_alike (bounded w) (bounded v) h f = absurd f
+  fine_alike (conflicted tw w) (conflicted tv v) h f = absurd f
+  fine_alike (bounded tw w) (bounded tv v) h f = absurd f
   fine_alike _ _ h f = absurd h
 
   enabled_alike : (r s : (runs S).State) (a : S.world.Actor) → RunAlike S r s → RunEnabled S r a → RunEnabled S s a
   enabled_alike (going t w) (going t' v) a (e, h) k = L.world.alike_enabled w v a h k
   enabled_alike (settled t w) (settled t' v) a h k = absurd k
-  enabled_alike (conflicted w) (conflicted v) a h k = absurd k
-  enabled_alike (bounded w) (bounded v) a h k = absurd k
+  enabled_alike (conflicted tw w) (conflicted tv v) a h k = absurd k
+  enabled_alike (bounded tw w) (bounded tv v) a h k = absurd k
   enabled_alike _ _ a h k = absurd h
 
   -- a fine entry met no conflict
@@ -55,7 +55,7 @@ module _ (S : Steps) (L : StepLaws S) where
   look_alike : (t t' : List ℕ) (w v : S.world.State) (quiet full : Bool) → t ≡ t' → S.world.Alike w v → S.quiet w ≡ quiet →
       RunAlike S (look S t w quiet full) (look S t' v quiet full)
   look_alike t t' w v true full e h q = settle_to_alike t t' (S.settle w) (S.settle v) e (L.settle_alike w v h q)
-  look_alike t t' w v false true e h q = tt
+  look_alike t t' w v false true e h q = e
   look_alike t t' w v false false e h q = (e, h)
 
   judge_alike : (t t' : List ℕ) (w v : S.world.State) (c d : Bool) → t ≡ t' → S.world.Alike w v → c ≡ false → d ≡ false →
@@ -75,8 +75,8 @@ module _ (S : Steps) (L : StepLaws S) where
       judge_alike (S.time w ∷ t) (S.time v ∷ t') (S.world.act w a) (S.world.act v a) (S.conflict w a) (S.conflict v a)
       (ap₂ (λ x y. x ∷ y) (L.alike_time w v h) e) (L.world.alike_act w v a h k cw) c (L.clean_test v a cv)
   act_alike (settled t w) (settled t' v) a h k f = absurd k
-  act_alike (conflicted w) (conflicted v) a h k f = absurd k
-  act_alike (bounded w) (bounded v) a h k f = absurd k
+  act_alike (conflicted tw w) (conflicted tv v) a h k f = absurd k
+  act_alike (bounded tw w) (bounded tv v) a h k f = absurd k
   act_alike _ _ a h k f = absurd h
 
   settle_to_possible : (t : List ℕ) (x : S.world.State ⊎ S.Finish) → SettlePossible S x → RunPossible S (settle_to S t x)
@@ -95,8 +95,8 @@ module _ (S : Steps) (L : StepLaws S) where
   pub run_possible : (r : (runs S).State) (a : S.world.Actor) → RunPossible S r → RunEnabled S r a → RunPossible S (run_act S r a)
   run_possible (going t w) a p h = judge_possible (S.time w ∷ t) (S.world.act w a) (S.conflict w a) (L.world.possible_act w a p h)
   run_possible (settled t e) a p h = tt
-  run_possible (conflicted w) a p h = tt
-  run_possible (bounded w) a p h = tt
+  run_possible (conflicted tw w) a p h = tt
+  run_possible (bounded tw w) a p h = tt
 
   look_going : (t : List ℕ) (w : S.world.State) (quiet full : Bool) → quiet ≡ false → Fine (look S t w quiet full) → (full ≡ false) × (look S t w quiet full ≡ going t w)
   look_going t w true full q f = absurd (cc)
@@ -148,8 +148,8 @@ module _ (S : Steps) (L : StepLaws S) where
       let goes = judge_going (S.time w ∷ t) (S.world.act w a) (S.conflict w a) (L.not_quiet (S.world.act w a) b e) f in
       subst (λ r. RunEnabled S r b) (sym goes.1) e
   stays_run (settled t e) a b p ne ha hb f = absurd ha
-  stays_run (conflicted w) a b p ne ha hb f = absurd ha
-  stays_run (bounded w) a b p ne ha hb f = absurd ha
+  stays_run (conflicted tw w) a b p ne ha hb f = absurd ha
+  stays_run (bounded tw w) a b p ne ha hb f = absurd ha
 
   -- what an exchange gives at a run that goes on
   record Exchanged (r : (runs S).State) (a b : S.world.Actor) : Type 0 where
@@ -170,8 +170,8 @@ module _ (S : Steps) (L : StepLaws S) where
         alike = y;
       }
   exchanged (settled t e) a b p ne ha hb f g = absurd ha
-  exchanged (conflicted w) a b p ne ha hb f g = absurd ha
-  exchanged (bounded w) a b p ne ha hb f g = absurd ha
+  exchanged (conflicted tw w) a b p ne ha hb f g = absurd ha
+  exchanged (bounded tw w) a b p ne ha hb f g = absurd ha
 
   pub run_laws : Laws (runs S)
   run_laws = record {

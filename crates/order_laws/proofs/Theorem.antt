@@ -1,10 +1,10 @@
 -- The theorem on every order of whole runs.
 use Rattle.std.proofs.Common.{◌≡◌, ◌⊎◌, ⊎_elim, inl, inr, ℕ, zero, suc, ◌≤◌, List, [], ◌∷◌, ◌++◌, length, refl, sym, subst, arith, Bool, true, false, nat_le, nat_eq, Option, Some, None, count_by, le_refl, le_trans}
 use Rattle.std.proofs.lemmas.Grind.{common_steps}
-use Rattle.order_laws.specs.System.{System, Laws, Quiet, Permitted, AllClean, after, Left}
+use Rattle.order_laws.specs.System.{System, Quiet, Permitted, AllClean, after, Left}
 use Rattle.order_laws.specs.Runs.{Steps, going, settled, conflicted, bounded, settle_to, look, judge, run_act, Fine, RunAlike, RunPossible, RunEnabled, runs, StepLaws}
 use Rattle.order_laws.specs.EveryOrder.{Settled, times_of, actions_at, Follows, chosen_by, chosen}
-use Rattle.order_laws.proofs.EveryOrder.{Every, every_order, Rest, rest_of, left_of, whole_order, Next, next_of}
+use Rattle.order_laws.proofs.EveryOrder.{Every, every_order, Rest, rest_of, left_of, whole_order}
 use Rattle.order_laws.proofs.RunLaws.{run_laws}
 
 -- ---- orders that go on
@@ -26,37 +26,6 @@ module _ (S : System) where
       go None e ih = tt
       go (Some a) e ih = (h s a e, ih (S.act s a))
 
-  -- the order that a choice gives
-  module _ (L : Laws S) (choose : S.State → Option S.Actor) (chosen_enabled : (s : S.State) (a : S.Actor) → choose s ≡ Some a → S.Enabled s a) (chosen_all : (s : S.State) → choose s ≡ None → Quiet S s) where
-    pub record Ends (s t : S.State) (order : List S.Actor) : Type 0 where
-      pub permitted : Permitted S s order
-      pub clean : AllClean S s order
-      pub quiet : Quiet S (after S s order)
-      pub alike : S.Alike (after S s order) t
-
-    -- where n actions are left, the chosen order ends, with the same end
-    pub chosen_ends : (n m : ℕ) (s t : S.State) → n ≤ m → S.Possible s → Left S n s t → Ends s t (chosen S choose m s)
-    chosen_ends zero zero s t le p (quiet, same) = record { permitted = tt; clean = tt; quiet = quiet; alike = same }
-    chosen_ends zero (suc m) s t le p (quiet, same) = go (choose s) refl
-      where
-        go : (o : Option S.Actor) → choose s ≡ o → Ends s t (chosen_by S (λ x. chosen S choose m x) s o)
-        go None e = record { permitted = tt; clean = tt; quiet = quiet; alike = same }
-        go (Some a) e = absurd (quiet a (chosen_enabled s a e))
-    chosen_ends (suc n) zero s t le p left = absurd (omega arith)
-    chosen_ends (suc n) (suc m) s t le p left = go (choose s) refl (λ x q k. chosen_ends n m x t (omega arith) q k)
-      where
-        some_left : Left S (suc n) s t → Quiet S s → ⊥
-        some_left (a, h, c, rest) quiet = quiet a h
-
-        go : (o : Option S.Actor) → choose s ≡ o → ((x : S.State) → S.Possible x → Left S n x t → Ends x t (chosen S choose m x)) → Ends s t (chosen_by S (λ x. chosen S choose m x) s o)
-        go None e ih = absurd (some_left left (chosen_all s e))
-        go (Some a) e ih =
-            let h : S.Enabled s a = chosen_enabled s a e in
-            let next : Next S L (suc n) s t a = next_of S L (suc n) s t p left a h in
-            let same : n ≡ next.less = omega (arith, next.is_less) in
-            let rest : Ends (S.act s a) t (chosen S choose m (S.act s a)) = ih (S.act s a) (L.possible_act s a p h) (subst (λ k. Left S k (S.act s a) t) (sym same) next.left) in
-            record { permitted = (h, rest.permitted); clean = (next.clean, rest.clean); quiet = rest.quiet; alike = rest.alike }
-
 -- ---- whole runs
 module _ (S : Steps) (L : StepLaws S) where
   fine_after : (o : List S.world.Actor) (r : (runs S).State) → Fine r → AllClean (runs S) r o → Fine (after (runs S) r o)
@@ -66,20 +35,20 @@ module _ (S : Steps) (L : StepLaws S) where
   settled_fine : (r : (runs S).State) → Settled r → Fine r
   settled_fine (going t w) h = tt
   settled_fine (settled t e) h = tt
-  settled_fine (conflicted w) h = absurd h
-  settled_fine (bounded w) h = absurd h
+  settled_fine (conflicted tw w) h = absurd h
+  settled_fine (bounded tw w) h = absurd h
 
   settled_quiet : (r : (runs S).State) → Settled r → Quiet (runs S) r
   settled_quiet (going t w) h = absurd h
   settled_quiet (settled t e) h = λ a k. k
-  settled_quiet (conflicted w) h = absurd h
-  settled_quiet (bounded w) h = absurd h
+  settled_quiet (conflicted tw w) h = absurd h
+  settled_quiet (bounded tw w) h = absurd h
 
   settled_alike : (r s : (runs S).State) → RunAlike S r s → Settled s → Settled r
   settled_alike (going t w) (going t' v) h k = absurd k
   settled_alike (settled t w) (settled t' v) h k = tt
-  settled_alike (conflicted w) (conflicted v) h k = absurd k
-  settled_alike (bounded w) (bounded v) h k = absurd k
+  settled_alike (conflicted tw w) (conflicted tv v) h k = absurd k
+  settled_alike (bounded tw w) (bounded tv v) h k = absurd k
   settled_alike _ _ h k = absurd h
 
   -- a fine end shows that each act before it was clean
@@ -87,14 +56,14 @@ module _ (S : Steps) (L : StepLaws S) where
   not_fine_stays [] r n f = n f
   not_fine_stays (a ∷ o) (going t w) n f = n tt
   not_fine_stays (a ∷ o) (settled t e) n f = n tt
-  not_fine_stays (a ∷ o) (conflicted w) n f = not_fine_stays o (conflicted w) (λ k. k) f
-  not_fine_stays (a ∷ o) (bounded w) n f = not_fine_stays o (bounded w) (λ k. k) f
+  not_fine_stays (a ∷ o) (conflicted tw w) n f = not_fine_stays o (conflicted tw w) (λ k. k) f
+  not_fine_stays (a ∷ o) (bounded tw w) n f = not_fine_stays o (bounded tw w) (λ k. k) f
 
   fine_or_not : (r : (runs S).State) → Fine r ⊎ (Fine r → ⊥)
   fine_or_not (going t w) = inl tt
   fine_or_not (settled t e) = inl tt
-  fine_or_not (conflicted w) = inr (λ k. k)
-  fine_or_not (bounded w) = inr (λ k. k)
+  fine_or_not (conflicted tw w) = inr (λ k. k)
+  fine_or_not (bounded tw w) = inr (λ k. k)
 
   clean_before : (o : List S.world.Actor) (r : (runs S).State) → Fine (after (runs S) r o) → AllClean (runs S) r o
   clean_before [] r f = tt
@@ -120,15 +89,15 @@ module _ (S : Steps) (L : StepLaws S) where
   times_alike : (r s : (runs S).State) → RunAlike S r s → times_of r ≡ times_of s
   times_alike (going t w) (going t' v) h = h.0
   times_alike (settled t w) (settled t' v) h = h.0
-  times_alike (conflicted w) (conflicted v) h = refl
-  times_alike (bounded w) (bounded v) h = refl
+  times_alike (conflicted tw w) (conflicted tv v) h = h
+  times_alike (bounded tw w) (bounded tv v) h = h
   times_alike _ _ h = absurd h
 
   one_more : (time : ℕ) (r : (runs S).State) (a : S.world.Actor) → RunEnabled S r a → Fine (run_act S r a) → actions_at time r ≤ actions_at time (run_act S r a)
   one_more time (going t w) a h f = subst (λ x. count_by (nat_eq time) t ≤ count_by (nat_eq time) x) (sym (times_judge (S.time w ∷ t) (S.world.act w a) (S.conflict w a) f)) (count_more time (S.time w) t)
   one_more time (settled t e) a h f = absurd h
-  one_more time (conflicted w) a h f = absurd h
-  one_more time (bounded w) a h f = absurd h
+  one_more time (conflicted tw w) a h f = absurd h
+  one_more time (bounded tw w) a h f = absurd h
 
   no_more_than : (time n : ℕ) (r t : (runs S).State) → Left (runs S) n r t → actions_at time r ≤ actions_at time t
   no_more_than time zero r t (quiet, same) = subst (λ x. count_by (nat_eq time) (times_of r) ≤ count_by (nat_eq time) x) (times_alike r t same) (le_refl (count_by (nat_eq time) (times_of r)))
@@ -151,12 +120,3 @@ module _ (S : Steps) (L : StepLaws S) where
         settles = subst Settled (sym end) (settled_alike (after (runs S) (after (runs S) r o') rest.order) t rest.same done);
         same = λ h. (whole_order (runs S) (run_laws S L) o' (length o) r t p left ok' (settled_quiet (after (runs S) r o') h)).1;
       }
-
-  -- where any order settles, the chosen one settles, given as many acts
-  pub chosen_settles : (choose : (runs S).State → Option S.world.Actor) (chosen_enabled : (s : (runs S).State) (a : S.world.Actor) → choose s ≡ Some a → RunEnabled S s a) (chosen_all : (s : (runs S).State) → choose s ≡ None → Quiet (runs S) s) →
-      (r : (runs S).State) → RunPossible S r → (o : List S.world.Actor) → Permitted (runs S) r o → Settled (after (runs S) r o) → (m : ℕ) → length o ≤ m → Settled (after (runs S) r (chosen (runs S) choose m r))
-  chosen_settles choose e q r p o ok done m le =
-      let t : (runs S).State = after (runs S) r o in
-      let left : Left (runs S) (length o) r t = left_of (runs S) (run_laws S L) o r ok (clean_before o r (settled_fine t done)) (settled_quiet t done) in
-      let ends : Ends (runs S) (run_laws S L) choose e q r t (chosen (runs S) choose m r) = chosen_ends (runs S) (run_laws S L) choose e q (length o) m r t le p left in
-      settled_alike (after (runs S) r (chosen (runs S) choose m r)) t ends.alike done

@@ -7,22 +7,22 @@ use Rattle.order_laws.specs.Runs.{Steps, Run, going, settled, conflicted, bounde
 abbrev pub Settled : {W E : Type 0} → Run W E → Type 0
 Settled (going times w) = ⊥
 Settled (settled times e) = Unit {0}
-Settled (conflicted w) = ⊥
-Settled (bounded w) = ⊥
+Settled (conflicted times w) = ⊥
+Settled (bounded times w) = ⊥
 
 -- the run has an outcome
 abbrev pub IsOver : {W E : Type 0} → Run W E → Type 0
 IsOver (going times w) = ⊥
 IsOver (settled times e) = Unit {0}
-IsOver (conflicted w) = Unit {0}
-IsOver (bounded w) = Unit {0}
+IsOver (conflicted times w) = Unit {0}
+IsOver (bounded times w) = Unit {0}
 
 -- the time of each action
 abbrev pub times_of : {W E : Type 0} → Run W E → List ℕ
 times_of (going times w) = times
 times_of (settled times e) = times
-times_of (conflicted w) = []
-times_of (bounded w) = []
+times_of (conflicted times w) = times
+times_of (bounded times w) = times
 
 -- how many actions of the time step t
 abbrev pub actions_at : {W E : Type 0} → ℕ → Run W E → ℕ

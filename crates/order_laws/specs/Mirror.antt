@@ -10,8 +10,8 @@ map_settle f g (inr e) = inr (g e)
 abbrev pub map_run : {W V E F : Type 0} → (W → V) → (E → F) → Run W E → Run V F
 map_run f g (going times w) = going times (f w)
 map_run f g (settled times e) = settled times (g e)
-map_run f g (conflicted w) = conflicted (f w)
-map_run f g (bounded w) = bounded (f w)
+map_run f g (conflicted times w) = conflicted times (f w)
+map_run f g (bounded times w) = bounded times (f w)
 
 -- T does what S does: f maps states, g ends, h actors
 pub record Mirrors (S T : Steps) (f : S.world.State → T.world.State) (g : S.Finish → T.Finish) (h : S.world.Actor → T.world.Actor) : Type 0 where

@@ -20,8 +20,8 @@ pub record Steps : Type 1 where
 pub data Run (W E : Type 0) : Type 0 where
   going : List ℕ → W → Run W E
   settled : List ℕ → E → Run W E
-  conflicted : W → Run W E
-  bounded : W → Run W E
+  conflicted : List ℕ → W → Run W E
+  bounded : List ℕ → W → Run W E
 
 abbrev pub settle_to : (S : Steps) → List ℕ → S.world.State ⊎ S.Finish → Run S.world.State S.Finish
 settle_to S times (inl w) = going times w
@@ -30,56 +30,56 @@ settle_to S times (inr e) = settled times e
 -- after an act that meets no conflict: settle where nobody may act, else look at the bound
 abbrev pub look : (S : Steps) → List ℕ → S.world.State → (quiet full : Bool) → Run S.world.State S.Finish
 look S times w true full = settle_to S times (S.settle w)
-look S times w false true = bounded w
+look S times w false true = bounded times w
 look S times w false false = going times w
 
 abbrev pub judge : (S : Steps) → List ℕ → S.world.State → (conflict : Bool) → Run S.world.State S.Finish
-judge S times w true = conflicted w
+judge S times w true = conflicted times w
 judge S times w false = look S times w (S.quiet w) (nat_le S.bound (S.size w))
 
 -- one entry of an order
 abbrev pub run_act : (S : Steps) → Run S.world.State S.Finish → S.world.Actor → Run S.world.State S.Finish
 run_act S (going times w) a = judge S (S.time w ∷ times) (S.world.act w a) (S.conflict w a)
 run_act S (settled times e) a = settled times e
-run_act S (conflicted w) a = conflicted w
-run_act S (bounded w) a = bounded w
+run_act S (conflicted times w) a = conflicted times w
+run_act S (bounded times w) a = bounded times w
 
 -- neither a conflict nor the bound
 abbrev pub Fine : {W E : Type 0} → Run W E → Type 0
 Fine (going times w) = Unit {0}
 Fine (settled times e) = Unit {0}
-Fine (conflicted w) = ⊥
-Fine (bounded w) = ⊥
+Fine (conflicted times w) = ⊥
+Fine (bounded times w) = ⊥
 
 abbrev pub RunAlike : (S : Steps) → Run S.world.State S.Finish → Run S.world.State S.Finish → Type 0
 RunAlike S (going times w) (going times' w') = (times ≡ times') × S.world.Alike w w'
 RunAlike S (settled times e) (settled times' e') = (times ≡ times') × S.FinishAlike e e'
-RunAlike S (conflicted w) (conflicted w') = Unit {0}
-RunAlike S (bounded w) (bounded w') = Unit {0}
+RunAlike S (conflicted times w) (conflicted times' w') = times ≡ times'
+RunAlike S (bounded times w) (bounded times' w') = times ≡ times'
 RunAlike S (going _ _) (settled _ _) = ⊥
-RunAlike S (going _ _) (conflicted _) = ⊥
-RunAlike S (going _ _) (bounded _) = ⊥
+RunAlike S (going _ _) (conflicted _ _) = ⊥
+RunAlike S (going _ _) (bounded _ _) = ⊥
 RunAlike S (settled _ _) (going _ _) = ⊥
-RunAlike S (settled _ _) (conflicted _) = ⊥
-RunAlike S (settled _ _) (bounded _) = ⊥
-RunAlike S (conflicted _) (going _ _) = ⊥
-RunAlike S (conflicted _) (settled _ _) = ⊥
-RunAlike S (conflicted _) (bounded _) = ⊥
-RunAlike S (bounded _) (going _ _) = ⊥
-RunAlike S (bounded _) (settled _ _) = ⊥
-RunAlike S (bounded _) (conflicted _) = ⊥
+RunAlike S (settled _ _) (conflicted _ _) = ⊥
+RunAlike S (settled _ _) (bounded _ _) = ⊥
+RunAlike S (conflicted _ _) (going _ _) = ⊥
+RunAlike S (conflicted _ _) (settled _ _) = ⊥
+RunAlike S (conflicted _ _) (bounded _ _) = ⊥
+RunAlike S (bounded _ _) (going _ _) = ⊥
+RunAlike S (bounded _ _) (settled _ _) = ⊥
+RunAlike S (bounded _ _) (conflicted _ _) = ⊥
 
 abbrev pub RunPossible : (S : Steps) → Run S.world.State S.Finish → Type 0
 RunPossible S (going times w) = S.world.Possible w
 RunPossible S (settled times e) = Unit {0}
-RunPossible S (conflicted w) = Unit {0}
-RunPossible S (bounded w) = Unit {0}
+RunPossible S (conflicted times w) = Unit {0}
+RunPossible S (bounded times w) = Unit {0}
 
 abbrev pub RunEnabled : (S : Steps) → Run S.world.State S.Finish → S.world.Actor → Type 0
 RunEnabled S (going times w) a = S.world.Enabled w a
 RunEnabled S (settled times e) a = ⊥
-RunEnabled S (conflicted w) a = ⊥
-RunEnabled S (bounded w) a = ⊥
+RunEnabled S (conflicted times w) a = ⊥
+RunEnabled S (bounded times w) a = ⊥
 
 -- whole runs are a machine of the same kind
 abbrev pub runs : Steps → System
