@@ -1,5 +1,5 @@
 //! What the tests want, in lines of text. The rows of the table of operations and the widths were
-//! worked out apart from this crate, with Python's whole numbers.
+//! worked out apart from this crate, over whole numbers of any size.
 
 /// A line is an operation, its operands and its numbers, and behind ` = ` what its row gives. `s4:9` is
 /// the SInt of width 4 with the raw bits 9, `u` stands for UInt, and `none` says that nothing fits.
