@@ -1,6 +1,5 @@
 use super::*;
 use std::test::Fail;
-use tb_base::{Memory, Name};
 use text_grammar::{Item, Symbol, Token};
 
 fn not_in_form(rt: &HostRuntime, text: &[u8]) -> bool {
