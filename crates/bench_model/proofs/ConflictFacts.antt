@@ -156,3 +156,44 @@ named cone e log c f = go (least_place cone log e) refl (least_is cone e log (e 
         least_first i least k n x =
             let y = conflict_newest cone e log k n x in
             at_least i k (λ m. least k m (record { event = y.0; at = y.1; clashes = y.2; not_led = λ l. y.3 (led_back k l) }))
+
+-- ---- the first pair of a log
+module _ (cone : ℕ → ℕ → Bool) (e : Event) (log : List Event) where
+  -- a later event makes no difference to two earlier ones
+  pub conflict_more : (k l : ℕ) → Conflict cone log k l → Conflict cone (e ∷ log) k l
+  conflict_more k l c =
+      let kb : k < length log = place_below log k c.first c.first_at in
+      let lb : l < length log = place_below log l c.second c.second_at in
+      record {
+        first = c.first;
+        second = c.second;
+        first_at = inr c.first_at;
+        second_at = inr c.second_at;
+        differ = c.differ;
+        not_before = ⊎_elim (λ s. let q : l ≡ length log = s.0 in absurd (omega arith)) (λ h. c.not_before h);
+        not_after = ⊎_elim (λ s. let q : k ≡ length log = s.0 in absurd (omega arith)) (λ h. c.not_after h);
+        clashes = c.clashes;
+      }
+
+  pub pair_more : (i j : ℕ) → IsFirstPair cone log i j → IsFirstPair cone (e ∷ log) i j
+  pair_more i j p =
+      let below : j < length log = place_below log j p.conflict.second p.conflict.second_at in
+      record {
+        in_order = p.in_order;
+        conflict = conflict_more i j p.conflict;
+        least_second = λ k l n x. ⊎_elim (λ m. p.least_second k l n (conflict_less cone e log k l n m x)) (λ q. omega arith) (at_within e log l x.second x.second_at);
+        least_first = λ k n x. p.least_first k n (conflict_less cone e log k j n below x);
+      }
+
+-- a log that meets no conflict event by event, or a first pair
+free_or_pair : (cone : ℕ → ℕ → Bool) (log : List Event) → AllFree cone log ⊎ ((i : ℕ) × (j : ℕ) × IsFirstPair cone log i j)
+free_or_pair cone [] = inl tt
+free_or_pair cone (e ∷ log) = ⊎_elim (λ f. go f (conflicts cone log e) refl) (λ p. inr (p.0, p.1, pair_more cone e log p.0 p.1 p.2)) (free_or_pair cone log)
+  where
+    go : AllFree cone log → (b : Bool) → conflicts cone log e ≡ b → AllFree cone (e ∷ log) ⊎ ((i : ℕ) × (j : ℕ) × IsFirstPair cone (e ∷ log) i j)
+    go f true c = let n : Named cone e log = named cone e log c f in inr (n.spot, length log, n.pair)
+    go f false c = inl (c, f)
+
+-- EACH LOG is free of conflicts, or has a first pair
+pub pair_or_free : (cone : ℕ → ℕ → Bool) (log : List Event) → IsFree cone log ⊎ ((i : ℕ) × (j : ℕ) × IsFirstPair cone log i j)
+pair_or_free cone log = ⊎_elim (λ f. inl (free_of cone log f)) (λ p. inr p) (free_or_pair cone log)

@@ -40,7 +40,7 @@ module _ (log : List Event) (F : Formed log) where
       (λ s. let r : d.region ≡ e.region = ap (λ (x : Event). x.region) (place_one log j d e (subst (λ z. HasAt log z d) s a) b) in absurd (omega arith))
 
   -- EACH LINK leads to a later event
-  link_rises : (i j : ℕ) → LinkAnywhere log i j → i < j
+  pub link_rises : (i j : ℕ) → LinkAnywhere log i j → i < j
   link_rises i j (d, e, a, b, l, way) =
       ⊎_elim (λ h. way (is_path_same d.path e.path h))
       (λ h. ⊎_elim (λ f. F.fork_first i j d e a b (fork_is d.kind e.path f))
@@ -53,7 +53,7 @@ module _ (log : List Event) (F : Formed log) where
       (or_cases (is_path d.path e.path) _ l)
 
 -- a link from an earlier event to a later one is "before"
-link_before : (log : List Event) (i j : ℕ) (d e : Event) → HasAt log i d → HasAt log j e → i < j → link d e ≡ true → IsBefore log i j
+pub link_before : (log : List Event) (i j : ℕ) (d e : Event) → HasAt log i d → HasAt log j e → i < j → link d e ≡ true → IsBefore log i j
 link_before [] i j d e a b n l = absurd a
 link_before (f ∷ log) i j d e (inl (s, x)) (inl (t, y)) n l = absurd (omega arith)
 link_before (f ∷ log) i j d e (inl (s, x)) (inr b) n l = let m : j < length log = place_below log j e b in absurd (omega arith)

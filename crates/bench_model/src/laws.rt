@@ -5,10 +5,10 @@ ghost use Rattle.bench_model.specs.Small.{AtEachTest, Circuit, Test, setting};
 ghost use Rattle.bench_model.specs.Settle.{Limits};
 ghost use Rattle.bench_model.specs.Log.{Event};
 ghost use Rattle.bench_model.specs.Formed.{Formed, IsBeforeAnywhere};
-ghost use Rattle.bench_model.specs.Conflict.{IsBefore};
+ghost use Rattle.bench_model.specs.Conflict.{IsBefore, IsFree, IsFirstPair};
 ghost use Rattle.bench_model.specs.TwoMoves.{AlikeWorlds, StaysEnabled, Exchanges, EnabledBefore};
 ghost use Rattle.bench_model.specs.Orders.{LogsFormed, EveryOrder, AnyCleanOrder, RealConflicts, OrdersWithin, FirstOrderEnds};
-ghost use Rattle.std.specs.Prelude.{List, ◌↔◌, ℕ};
+ghost use Rattle.std.specs.Prelude.{List, Bool, ◌↔◌, ◌⊎◌, ℕ};
 
 /// Worlds that are equal but for the order of their records and of their logs have the same enabled threads; the act of one
 /// thread gives alike worlds; and settling gives alike worlds or ends that differ in the order of records alone.
@@ -72,4 +72,10 @@ pub fn first_order_ends()
 /// On formed logs it makes no difference whether the links of a chain may lead back to earlier events.
 pub fn before_anywhere()
     ensures { (log : List Event) → Formed log → (i : ℕ) → (j : ℕ) → IsBeforeAnywhere log i j ↔ IsBefore log i j }
+{}
+
+/// Each log is free of conflicts or has a first pair: the least place whose event conflicts with an earlier one, and the least place
+/// that it conflicts with.
+pub fn first_pair()
+    ensures { (cone : ℕ → ℕ → Bool) → (log : List Event) → IsFree cone log ⊎ ((i : ℕ) × (j : ℕ) × IsFirstPair cone log i j) }
 {}
