@@ -27,6 +27,7 @@ monitor = 7
 abbrev pub given_by : Circuit → Limits → Test → List Path → Option Result
 given_by c l k order = run_of (setting c l k) (replay (setting c l k) order)
 
+-- what the one-thread order gives
 abbrev pub given : Circuit → Limits → Test → Option Result
 given c l k = given_by c l k (first_order (setting c l k))
 
@@ -34,9 +35,11 @@ given c l k = given_by c l k (first_order (setting c l k))
 abbrev pub event : (region : ℕ) → Path → (line : ℕ) → Kind → Event
 event r p l k = record { path = p; region = r; joined = None; line = l; kind = k }
 
+-- the record of a peek
 abbrev pub peeked : (time region : ℕ) → Path → (place line signal value : ℕ) → Record
 peeked t r p n l s v = record { time = t; region = r; path = p; place = n; line = l; signal = s; value = v; wanted = None }
 
+-- the record of a failed expect
 abbrev pub failed_expect : (time region : ℕ) → Path → (place line signal value wanted : ℕ) → Record
 failed_expect t r p n l s v w = record { time = t; region = r; path = p; place = n; line = l; signal = s; value = v; wanted = Some w }
 
@@ -72,6 +75,7 @@ by_fork = poke_then 1 0 2 (fork_then 2 0 (peek_then 2 2 done) (join_then 3 0 don
 abbrev pub by_join : Test
 by_join = fork_then 1 0 (poke_then 1 0 2 done) (join_then 2 0 (peek_then 3 2 done))
 
+-- the same without the join
 abbrev pub without_join : Test
 without_join = fork_then 1 0 (poke_then 1 0 2 done) (peek_then 2 2 done)
 
@@ -92,15 +96,19 @@ abbrev pub repeated : (Test → Test) → ℕ → Test → Test
 repeated f zero k = k
 repeated f (suc n) k = f (repeated f n k)
 
+-- so many pokes
 abbrev pub pokes_of : ℕ → Test
 pokes_of n = repeated (poke_then 1 0 1) n done
 
+-- so many steps of one edge
 abbrev pub steps_of : ℕ → Test
 steps_of n = repeated (step_then 1 1) n done
 
+-- so many children that each wait for an edge, as their parent does
 abbrev pub children_of : ℕ → Test
 children_of n = repeated (fork_then 1 0 (step_then 1 1 done)) n (step_then 2 1 done)
 
+-- so many peeks, then an edge
 abbrev pub peeks_of : ℕ → Test
 peeks_of n = repeated (peek_then 1 2) n (step_then 2 1 done)
 
@@ -108,14 +116,18 @@ peeks_of n = repeated (peek_then 1 2) n (step_then 2 1 done)
 abbrev pub four_actions : Limits
 four_actions = record few { step_actions = 4 }
 
+-- three time steps
 abbrev pub three_steps : Limits
 three_steps = record few { time_steps = 3 }
 
+-- two threads
 abbrev pub two_threads : Limits
 two_threads = record few { threads = 2 }
 
+-- two records
 abbrev pub two_records : Limits
 two_records = record few { records = 2 }
 
+-- three actions of the run
 abbrev pub three_run_actions : Limits
 three_run_actions = record few { run_actions = 3 }

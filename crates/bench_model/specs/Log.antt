@@ -38,6 +38,7 @@ abbrev pub count : Path → List Event → ℕ
 count p [] = 0
 count p (e ∷ log) = cond (is_path p e.path) (suc (count p log)) (count p log)
 
+-- a path, and a number of one of its events
 abbrev pub Name : Type 0
 Name = Path × ℕ
 
@@ -57,6 +58,7 @@ abbrev pub is_fork_of : Kind → Path → Bool
 is_fork_of (forks c) p = is_path c p
 is_fork_of _ p = false
 
+-- the event is the end of its thread
 abbrev pub is_end : Kind → Bool
 is_end ends = true
 is_end _ = false
@@ -108,15 +110,19 @@ NoConflictBy {B} label cone log e = (x : B) (d : Event) → AtBy label log x d �
 
 -- ---- the same by path and number
 
+-- the log has the event d under the name x
 abbrev pub At : List Event → Name → Event → Type 0
 At log x d = AtBy name log x d
 
+-- the event n is before the event m
 abbrev pub Before : List Event → Name → Name → Type 0
 Before log n m = BeforeBy name log n m
 
+-- the event n leads to the event e that comes after the log
 abbrev pub Leads : List Event → Name → Event → Type 0
 Leads log n e = LeadsTo name log n e
 
+-- the new event meets no conflict
 abbrev pub NoConflict : (cone : ℕ → ℕ → Bool) → List Event → Event → Type 0
 NoConflict cone log e = NoConflictBy name cone log e
 
@@ -134,6 +140,7 @@ abbrev pub leads_to_any : Event → List Event → Bool
 leads_to_any d [] = false
 leads_to_any d (x ∷ past) = link d x || leads_to_any d past
 
+-- whether an event that does not lead to e clashes with it
 abbrev pub scan : (cone : ℕ → ℕ → Bool) → Event → List Event → List Event → Bool
 scan cone e [] past = false
 scan cone e (d ∷ log) past = elim (leads_to_any d past) [ true ↦ scan cone e log (d ∷ past) | false ↦ clash cone d.kind e.kind || scan cone e log past ]
@@ -148,6 +155,7 @@ or_here (Some i) c n = Some i
 or_here None true n = Some n
 or_here None false n = None
 
+-- the least place of such an event
 abbrev pub least_scan : (cone : ℕ → ℕ → Bool) → Event → List Event → List Event → Option ℕ
 least_scan cone e [] past = None
 least_scan cone e (d ∷ log) past = elim (leads_to_any d past) [ true ↦ least_scan cone e log (d ∷ past) | false ↦ or_here (least_scan cone e log past) (clash cone d.kind e.kind) (length log) ]

@@ -16,6 +16,7 @@ use Rattle.bench_model.specs.Settle.{Ending, is_running, Setting, Finish, steps}
 
 -- ---- orders
 
+-- the root thread at the start
 abbrev pub root_thread : {I : Type 0} → I → Thread I
 root_thread i = record { region = 0; mode = running; inner = i; forked = []; acts = 0; joined = None }
 
@@ -36,6 +37,7 @@ first_world S = record {
 abbrev pub RunOf : Setting → Type 0
 RunOf S = Run (World S.model.Inner) Finish
 
+-- the start of a run
 abbrev pub start : (S : Setting) → RunOf S
 start S = going [] (first_world S)
 
@@ -58,6 +60,7 @@ abbrev pub is_enabled : {I : Type 0} → World I → Option (Thread I) → Bool
 is_enabled w None = false
 is_enabled w (Some t) = is_running t.mode && not (list_any (λ e. is_running e.1.mode && nat_lt e.1.region t.region) (map.entries w.threads))
 
+-- the first of these paths that is enabled
 abbrev pub first_enabled : {I : Type 0} → World I → List Path → Option Path
 first_enabled w [] = None
 first_enabled w (p ∷ ps) = cond (is_enabled w (map.get w.threads p)) (Some p) (first_enabled w ps)
@@ -66,6 +69,7 @@ first_enabled w (p ∷ ps) = cond (is_enabled w (map.get w.threads p)) (Some p) 
 abbrev pub least : {I : Type 0} → World I → Option Path
 least w = first_enabled w (map.keys w.threads)
 
+-- nobody acts once there is an outcome
 abbrev pub least_of_run : {I : Type 0} → Run (World I) Finish → Option Path
 least_of_run (going times w) = least w
 least_of_run _ = None
@@ -97,15 +101,17 @@ pub record Result : Type 0 where
   pub actions : ℕ
   pub outcome : Outcome
 
--- the event of the least place that the newest event conflicts with, and that newest event
+-- the event at a place, if there is one
 abbrev pub event_found : List Event → Option ℕ → Option Event
 event_found log None = None
 event_found log (Some i) = event_at log i
 
+-- the two events that a conflict names
 abbrev pub named_pair : (cone : ℕ → ℕ → Bool) → List Event → Option (Event × Event)
 named_pair cone [] = None
 named_pair cone (e ∷ log) = option_map (λ d. (d, e)) (event_found log (least_place cone log e))
 
+-- what a run gives that stops at the world w
 abbrev pub world_result : {I : Type 0} → World I → Outcome → Result
 world_result w o = record { records = sorted record_le w.records; samples = reverse w.samples; actions = w.actions; outcome = o }
 

@@ -56,12 +56,14 @@ pub record Setting : Type 1 where
   pub registers : List ℕ
   pub root : model.Inner
 
+-- what the laws of orders ask of a setting
 pub record SettingLaws (S : Setting) : Type 0 where
   pub model : ModelLaws S.model
   pub root : S.model.Fits 0 [] S.root
 
 -- ---- what ends a run
 
+-- the thread runs
 abbrev pub is_running : Mode → Bool
 is_running running = true
 is_running _ = false
@@ -80,10 +82,12 @@ lesser None o = o
 lesser (Some x) None = Some x
 lesser (Some x) (Some y) = cond (nat_lt y.0 x.0) (Some y) (Some x)
 
+-- a thread that is spent, with its region, path and line
 abbrev pub spent_of : ℕ → Path → Mode → Option (ℕ × Path × ℕ)
 spent_of r p (spent l) = Some (r, p, l)
 spent_of r p _ = None
 
+-- the first spent thread of these
 abbrev pub first_spent : {I : Type 0} → List (Path × Thread I) → Option (ℕ × Path × ℕ)
 first_spent [] = None
 first_spent (e ∷ es) = lesser (spent_of e.1.region e.0 e.1.mode) (first_spent es)
@@ -96,10 +100,12 @@ limited l t r a n =
     (cond (nat_lt l.run_actions a) (Some action_limit)
     (cond (nat_le l.time_steps (suc n)) (Some time_limit) None)))
 
+-- the run has finished where the root thread is gone
 abbrev pub ended : (root : Bool) → Option Ending → Option Ending
 ended true o = o
 ended false o = Some finished
 
+-- a spent thread comes first
 abbrev pub or_spent : Option (ℕ × Path × ℕ) → Option Ending → Option Ending
 or_spent None o = o
 or_spent (Some x) o = Some (spent_at x.1 x.2)
@@ -118,6 +124,7 @@ verdict l w =
 abbrev pub map_values : {K X Y : Type 0} (R : K → K → Ordering) → (K → X → Y) → FinMap R X → FinMap R Y
 map_values R f m = map.from_sorted (map (λ e. (e.0, f e.0 e.1)) (map.entries m))
 
+-- a thread that waits no more
 abbrev pub released : {I : Type 0} → Thread I → Thread I
 released t = record t { mode = running; joined = None }
 
@@ -127,6 +134,7 @@ tick_mode ts p t (at_edges n) = cond (nat_le n 1) (released t) (record t { mode 
 tick_mode ts p t (at_joinstep k) = cond (is_some (map.get ts (child p k))) t (released t)
 tick_mode ts p t _ = t
 
+-- all threads after the edge
 abbrev pub tick : {I : Type 0} → Threads I → Threads I
 tick ts = map_values path_cmp (λ p t. tick_mode ts p t t.mode) ts
 
@@ -143,15 +151,18 @@ next_step S w = record {
   actions = w.actions;
 }
 
+-- the end of the run at the world w, with the sample of its last time step
 abbrev pub finish : (S : Setting) → World S.model.Inner → Ending → Finish
 finish S w o = record { ending = o; time = w.time; records = w.records; samples = S.sample w.inputs w.registers ∷ w.samples; actions = w.actions }
 
 -- ---- settling
 
+-- where nobody runs in the new time step, it settles too
 abbrev pub settle_on : (S : Setting) → (World S.model.Inner → World S.model.Inner ⊎ Finish) → World S.model.Inner → (quiet : Bool) → World S.model.Inner ⊎ Finish
 settle_on S again w true = again w
 settle_on S again w false = inl w
 
+-- an end, or the edge and the next time step
 abbrev pub settle_by : (S : Setting) → (World S.model.Inner → World S.model.Inner ⊎ Finish) → World S.model.Inner → Option Ending → World S.model.Inner ⊎ Finish
 settle_by S again w (Some o) = inr (finish S w o)
 settle_by S again w None = settle_on S again (next_step S w) (quiet (next_step S w))

@@ -17,6 +17,7 @@ pub data Test : Type 0 where
   step_then : (line edges : ℕ) → Test → Test
   stuck : (line : ℕ) → Test
 
+-- what a thread does next
 abbrev pub next : Test → Move Test
 next done = end
 next (poke_then l p v k) = poke l p v (λ old. k)
@@ -50,10 +51,12 @@ pub record Circuit : Type 0 where
   -- for each register the signal that it follows
   pub follows : List ℕ
 
+-- the sum of these entries of a list
 abbrev pub sum_of : List ℕ → List ℕ → ℕ
 sum_of xs [] = 0
 sum_of xs (p ∷ ps) = slice_index xs p + sum_of xs ps
 
+-- the value of a signal
 abbrev pub sum_at : (inputs registers : List ℕ) → List ℕ × List ℕ → ℕ
 sum_at ins regs parts = sum_of ins parts.0 + sum_of regs parts.1
 
@@ -61,6 +64,7 @@ sum_at ins regs parts = sum_of ins parts.0 + sum_of regs parts.1
 abbrev pub parts_of : Circuit → ℕ → List ℕ × List ℕ
 parts_of c s = slice_index_or c.sums s ([], [])
 
+-- the threads of the small language over a small circuit
 abbrev pub model : Circuit → Model
 model c = record {
   Inner = Test;

@@ -10,12 +10,14 @@ use Rattle.bench_model.specs.Settle.Ending.{thread_limit, record_limit, action_l
 abbrev pub limits_told : EndLimits → Limits
 limits_told l = record { step_actions = 0; threads = l.threads; records = l.records; run_actions = l.actions; time_steps = l.time_steps }
 
+-- the ending of a limit that is passed
 abbrev pub limit_told : Passed → Ending
 limit_told Threads = thread_limit
 limit_told Records = record_limit
 limit_told Actions = action_limit
 limit_told TimeSteps = time_limit
 
+-- the same where there may be none
 abbrev pub passed_told : Option Passed → Option Ending
 passed_told None = None
 passed_told (Some p) = Some (limit_told p)

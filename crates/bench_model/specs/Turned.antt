@@ -21,6 +21,7 @@ pub record Turn (S : Setting) : Type 0 where
 abbrev pub upright : (S : Setting) → Turn S
 upright S = record { joins_wait = false; fails_at_once = false; conflict = λ ins log p t. conflicts S.model.cone log (event_of p t (S.model.next t.inner)) }
 
+-- the world after an act, so turned
 abbrev pub turned_act_of : (S : Setting) → Turn S → World S.model.Inner → Path → Option (Thread S.model.Inner) → World S.model.Inner
 turned_act_of S T w p None = w
 turned_act_of S T w p (Some t) =
@@ -29,9 +30,11 @@ turned_act_of S T w p (Some t) =
       threads = write (birth (wake w.threads (wakes p m)) (newborn p t m)) p (self_after t m (answer S.model w.inputs w.registers m) (cond T.joins_wait true (is_there w.threads p m)));
     }
 
+-- nobody may act, so turned
 abbrev pub turned_quiet : (S : Setting) → Turn S → World S.model.Inner → Bool
 turned_quiet S T w = cond T.fails_at_once (quiet w || list_any (fails_now w.time) w.records) (quiet w)
 
+-- the next event meets a conflict, so turned
 abbrev pub turned_conflict : (S : Setting) → Turn S → World S.model.Inner → Path → Option (Thread S.model.Inner) → Bool
 turned_conflict S T w p None = false
 turned_conflict S T w p (Some t) = T.conflict w.inputs w.log p t
@@ -62,6 +65,7 @@ turned_steps S T = record {
 abbrev pub turned_by : (S : Setting) → Turn S → List Path → Option Result
 turned_by S T order = run_of S (after (runs (turned_steps S T)) (start S) order)
 
+-- the outcome of what a run gives
 abbrev pub outcome_of : Option Result → Option Outcome
 outcome_of None = None
 outcome_of (Some r) = Some r.outcome
@@ -71,6 +75,7 @@ abbrev pub is_conflicted : {W E : Type 0} → Run W E → Bool
 is_conflicted (conflicted times w) = true
 is_conflicted _ = false
 
+-- an order meets a conflict, so turned
 abbrev pub turned_conflicts : (S : Setting) → Turn S → List Path → Bool
 turned_conflicts S T order = is_conflicted (after (runs (turned_steps S T)) (start S) order)
 
@@ -81,14 +86,17 @@ abbrev pub link_by : (thread fork join region : Bool) → Event → Event → Bo
 link_by thread fork join region d e =
     (thread && is_path d.path e.path) || ((fork && is_fork_of d.kind e.path) || ((join && (is_end d.kind && names_joined e.joined d.path)) || (region && nat_lt d.region e.region)))
 
+-- the event leads to one of these, by other links
 abbrev pub leads_by : (Event → Event → Bool) → Event → List Event → Bool
 leads_by linked d [] = false
 leads_by linked d (x ∷ past) = linked d x || leads_by linked d past
 
+-- whether an event that does not lead to e clashes with it, by other links
 abbrev pub scan_by : (Event → Event → Bool) → (cone : ℕ → ℕ → Bool) → Event → List Event → List Event → Bool
 scan_by linked cone e [] past = false
 scan_by linked cone e (d ∷ log) past = elim (leads_by linked d past) [ true ↦ scan_by linked cone e log (d ∷ past) | false ↦ clash cone d.kind e.kind || scan_by linked cone e log past ]
 
+-- some of the links are dropped
 abbrev pub with_links : (S : Setting) → (thread fork join region : Bool) → Turn S
 with_links S thread fork join region =
     record (upright S) { conflict = λ ins log p t. (let e = event_of p t (S.model.next t.inner) in scan_by (link_by thread fork join region) S.model.cone e log (e ∷ [])) }
@@ -106,9 +114,11 @@ values_count S = record (upright S) { conflict = λ ins log p t. conflicts S.mod
 
 -- ---- joins and failures
 
+-- a join waits also where the child has ended
 abbrev pub joins_always_wait : (S : Setting) → Turn S
 joins_always_wait S = record (upright S) { joins_wait = true }
 
+-- a failure ends the run at once
 abbrev pub failures_end : (S : Setting) → Turn S
 failures_end S = record (upright S) { fails_at_once = true }
 
@@ -128,6 +138,7 @@ abbrev pub runs_by : {I : Type 0} → Option (Thread I) → Bool
 runs_by None = false
 runs_by (Some t) = is_running t.mode
 
+-- the thread p is running where the run stands
 abbrev pub running_in : {I : Type 0} → Run (World I) Finish → Path → Bool
 running_in (going times w) p = runs_by (map.get w.threads p)
 running_in _ p = false

@@ -64,6 +64,7 @@ pub record Record : Type 0 where
   pub value : ℕ
   pub wanted : Option ℕ
 
+-- the threads that are there, by path
 abbrev pub Threads : Type 0 → Type 0
 Threads I = FinMap path_cmp (Thread I)
 
@@ -146,10 +147,12 @@ abbrev pub wakes : {I : Type 0} → Path → Move I → Option (Path × ℕ)
 wakes p end = parent p
 wakes p _ = None
 
+-- a thread that waits for its child k by a join runs; others stay as they are
 abbrev pub woken_mode : ℕ → Mode → Mode
 woken_mode k (at_join j) = cond (nat_eq j k) running (at_join j)
 woken_mode k mode = mode
 
+-- the thread after the end of its child k
 abbrev pub woken : {I : Type 0} → ℕ → Thread I → Thread I
 woken k t = record t { mode = woken_mode k t.mode }
 
@@ -160,10 +163,12 @@ abbrev pub write : {I : Type 0} → Threads I → Path → Option (Thread I) →
 write ts p None = map.remove ts p
 write ts p (Some t) = map.insert ts p t
 
+-- the threads after that waking, if there is one
 abbrev pub wake : {I : Type 0} → Threads I → Option (Path × ℕ) → Threads I
 wake ts None = ts
 wake ts (Some (q, k)) = write ts q (option_map (woken k) (map.get ts q))
 
+-- the threads after that birth, if there is one
 abbrev pub birth : {I : Type 0} → Threads I → Option (Path × Thread I) → Threads I
 birth ts None = ts
 birth ts (Some (c, u)) = write ts c (Some u)
@@ -177,6 +182,7 @@ abbrev pub inputs_after : (M : Model) → List ℕ → Move M.Inner → List ℕ
 inputs_after M ins (poke l p v i) = slice_set ins p (M.fitted p v)
 inputs_after M ins _ = ins
 
+-- the record of a peek or of an expect
 abbrev pub record_of : {I : Type 0} → ℕ → Path → Thread I → (line signal value : ℕ) → Option ℕ → Record
 record_of time p t line signal value wanted = record { time = time; region = t.region; path = p; place = t.acts; line = line; signal = signal; value = value; wanted = wanted }
 
@@ -186,6 +192,7 @@ recorded time p t (peek l s b i) a = cond b (record_of time p t l s a None ∷ [
 recorded time p t (expect l s v i) a = cond (nat_eq a v) [] (record_of time p t l s a (Some v) ∷ [])
 recorded time p t _ a = []
 
+-- the world after the act of the thread that stands at p; nobody there leaves it as it is
 abbrev pub act_of : (M : Model) → World M.Inner → Path → Option (Thread M.Inner) → World M.Inner
 act_of M w p None = w
 act_of M w p (Some t) =
@@ -207,6 +214,7 @@ act M w p = act_of M w p (map.get w.threads p)
 
 -- ---- who may act
 
+-- the thread waits for nothing
 abbrev pub IsRunning : {I : Type 0} → Thread I → Type 0
 IsRunning t = t.mode ≡ running
 
@@ -221,7 +229,8 @@ pub record Enabled {I : Type 0} (w : World I) (p : Path) : Type 0 where
 abbrev pub CleanAct : (M : Model) → World M.Inner → Path → Type 0
 CleanAct M w p = (t : Thread M.Inner) → map.get w.threads p ≡ Some t → NoConflict M.cone w.log (event_of p t (M.next t.inner))
 
--- TWO WORLDS ARE ALIKE where they are equal but for the order of records and log, and the logs have the same events with the same "before"
+-- TWO WORLDS ARE ALIKE where they are equal but for the order of records and log, and the logs have the same events with the same
+-- "before"
 pub record WorldAlike {I : Type 0} (w v : World I) : Type 0 where
   pub inputs : w.inputs ≡ v.inputs
   pub registers : w.registers ≡ v.registers
@@ -245,6 +254,8 @@ FitsMove M r forked (joinstep l k i) = M.Fits r forked i
 FitsMove M r forked (spend l) = Unit {0}
 FitsMove M r forked end = Unit {0}
 
+-- WHAT THE LAWS OF ORDERS ASK OF A MODEL: a poke of an input outside the cone leaves the value of a signal, and threads respect
+-- regions, move by move
 pub record ModelLaws (M : Model) : Type 0 where
   pub value_apart : (ins regs : List ℕ) (s p v : ℕ) → M.cone s p ≡ false → M.value (slice_set ins p v) regs s ≡ M.value ins regs s
   pub fits_next : (r : ℕ) (forked : List ℕ) (i : M.Inner) → M.Fits r forked i → FitsMove M r forked (M.next i)

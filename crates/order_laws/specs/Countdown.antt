@@ -10,6 +10,7 @@ left_at left actor = slice_index left actor
 abbrev pub taken : List ℕ → ℕ → List ℕ
 taken left actor = slice_set left actor (left_at left actor - 1)
 
+-- the machine; states are alike where they are equal, and each act is clean
 abbrev pub countdown : System
 countdown = record {
   State = List ℕ;

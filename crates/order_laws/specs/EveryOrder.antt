@@ -41,11 +41,12 @@ pub record Follows (S : Steps) (r t : Run S.world.State S.Finish) (order : List 
   -- and where it has settled, it ends alike
   pub same : Settled (after (runs S) r order) → RunAlike S (after (runs S) r order) t
 
--- the order that a choice gives, for at most so many acts
+-- one act by a choice, and then the rest
 abbrev pub chosen_by : (S : System) → (S.State → List S.Actor) → S.State → Option S.Actor → List S.Actor
 chosen_by S rest s None = []
 chosen_by S rest s (Some a) = a ∷ rest (S.act s a)
 
+-- the order that a choice gives, for at most so many acts
 abbrev pub chosen : (S : System) → (S.State → Option S.Actor) → ℕ → S.State → List S.Actor
 chosen S choose zero s = []
 chosen S choose (suc n) s = chosen_by S (λ x. chosen S choose n x) s (choose s)

@@ -3,10 +3,12 @@ use Rattle.std.specs.Prelude.{◌≡◌, ◌⊎◌}
 use mathlib.Core.Logic.{inl, inr}
 use Rattle.order_laws.specs.Runs.{Steps, Run, going, settled, conflicted, bounded}
 
+-- a map of states and one of ends, at what settling gives
 abbrev pub map_settle : {W V E F : Type 0} → (W → V) → (E → F) → W ⊎ E → V ⊎ F
 map_settle f g (inl w) = inl (f w)
 map_settle f g (inr e) = inr (g e)
 
+-- the same at where a run stands
 abbrev pub map_run : {W V E F : Type 0} → (W → V) → (E → F) → Run W E → Run V F
 map_run f g (going times w) = going times (f w)
 map_run f g (settled times e) = settled times (g e)

@@ -23,6 +23,7 @@ pub data Run (W E : Type 0) : Type 0 where
   conflicted : List ℕ → W → Run W E
   bounded : List ℕ → W → Run W E
 
+-- where a run stands after settling
 abbrev pub settle_to : (S : Steps) → List ℕ → S.world.State ⊎ S.Finish → Run S.world.State S.Finish
 settle_to S times (inl w) = going times w
 settle_to S times (inr e) = settled times e
@@ -33,6 +34,7 @@ look S times w true full = settle_to S times (S.settle w)
 look S times w false true = bounded times w
 look S times w false false = going times w
 
+-- after an act: a conflict comes first
 abbrev pub judge : (S : Steps) → List ℕ → S.world.State → (conflict : Bool) → Run S.world.State S.Finish
 judge S times w true = conflicted times w
 judge S times w false = look S times w (S.quiet w) (nat_le S.bound (S.size w))
@@ -51,6 +53,7 @@ Fine (settled times e) = Unit {0}
 Fine (conflicted times w) = ⊥
 Fine (bounded times w) = ⊥
 
+-- two runs are alike where they stand alike, with the same times of their actions
 abbrev pub RunAlike : (S : Steps) → Run S.world.State S.Finish → Run S.world.State S.Finish → Type 0
 RunAlike S (going times w) (going times' w') = (times ≡ times') × S.world.Alike w w'
 RunAlike S (settled times e) (settled times' e') = (times ≡ times') × S.FinishAlike e e'
@@ -69,12 +72,14 @@ RunAlike S (bounded _ _) (going _ _) = ⊥
 RunAlike S (bounded _ _) (settled _ _) = ⊥
 RunAlike S (bounded _ _) (conflicted _ _) = ⊥
 
+-- the world of a run that goes on is possible
 abbrev pub RunPossible : (S : Steps) → Run S.world.State S.Finish → Type 0
 RunPossible S (going times w) = S.world.Possible w
 RunPossible S (settled times e) = Unit {0}
 RunPossible S (conflicted times w) = Unit {0}
 RunPossible S (bounded times w) = Unit {0}
 
+-- somebody may act only in a run that goes on
 abbrev pub RunEnabled : (S : Steps) → Run S.world.State S.Finish → S.world.Actor → Type 0
 RunEnabled S (going times w) a = S.world.Enabled w a
 RunEnabled S (settled times e) a = ⊥
@@ -93,16 +98,19 @@ runs S = record {
   act = run_act S;
 }
 
+-- settling gives alike worlds or alike ends
 abbrev pub SettleAlike : (S : Steps) → S.world.State ⊎ S.Finish → S.world.State ⊎ S.Finish → Type 0
 SettleAlike S (inl w) (inl w') = S.world.Alike w w'
 SettleAlike S (inr e) (inr e') = S.FinishAlike e e'
 SettleAlike S (inl w) (inr e) = ⊥
 SettleAlike S (inr e) (inl w) = ⊥
 
+-- settling gives a possible world or an end
 abbrev pub SettlePossible : (S : Steps) → S.world.State ⊎ S.Finish → Type 0
 SettlePossible S (inl w) = S.world.Possible w
 SettlePossible S (inr e) = Unit {0}
 
+-- what the time steps of a run have to meet, for whole runs to be a machine that meets the laws
 pub record StepLaws (S : Steps) : Type 0 where
   pub world : Laws S.world
   pub finish_refl : (e : S.Finish) → S.FinishAlike e e
