@@ -96,7 +96,8 @@ impl Bench {
         requires room { self.old.actions < 2 ^ 32 - 1 }
         requires value { value ≡ number_at self.old.engine.net (world_of self.old) port }
         ensures net { OnOk result (self.new.engine.net ≡ self.old.engine.net) }
-        ensures world { OnOk result (world_of self.new ≡ recorded (observation self.old.engine.net (world_of self.old) line port wanted) (world_of self.old)) }
+        ensures world { OnOk result (world_of self.new
+            ≡ recorded (observation self.old.engine.net (world_of self.old) line port wanted) (world_of self.old)) }
     {
         let seen = Observation {
             time: self.time,
@@ -117,7 +118,8 @@ impl Bench {
     fn expect(&mut self, alloc: Global, line: u32, port: Signal, wanted: u128) -> Result<(), Memory>
         requires { self.old.actions < 2 ^ 32 - 1 }
         ensures net { OnOk result (self.new.engine.net ≡ self.old.engine.net) }
-        ensures world { OnOk result (world_of self.new ≡ acted self.old.engine.net (world_of self.old) (Act.Expect line port wanted)) }
+        ensures world { OnOk result (world_of self.new
+            ≡ acted self.old.engine.net (world_of self.old) (Act.Expect line port wanted)) }
     {
         let value = self.number(port);
         if value == wanted {

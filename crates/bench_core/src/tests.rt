@@ -11,92 +11,115 @@ fn name(alloc: Global, text: &[u8]) -> Result<Name, Fail> {
     Ok(Name::of(text.to_vec(alloc)?))
 }
 
-fn port(alloc: Global, output: bool, text: &[u8], width: u128) -> Result<Port, Fail> {
+fn port(alloc: Global, output: bool, text: &[u8]) -> Result<Port, Fail> {
     let name = name(alloc, text)?;
     Ok(Port {
         line: 3,
         output,
         name,
-        width,
+        width: 8,
     })
 }
 
-/// A circuit whose output `out` of nine bits is the sum of its inputs `a` and `b` of eight.
-fn adder(alloc: Global) -> Result<Design, Fail> {
+/// A module whose output `out` has the value of its input `in`, both of eight bits.
+fn module(alloc: Global) -> Result<Module, Fail> {
     let mut ports = Vec::new(alloc);
-    ports.push(port(alloc, false, b"a", 8)?)?;
-    ports.push(port(alloc, false, b"b", 8)?)?;
-    ports.push(port(alloc, true, b"out", 9)?)?;
+    ports.push(port(alloc, false, b"in")?)?;
+    ports.push(port(alloc, true, b"out")?)?;
     let mut body = Vec::new(alloc);
-    let value = Expr::Add(name(alloc, b"a")?, name(alloc, b"b")?);
     body.push(Stmt::Connect {
-        line: 6,
+        line: 5,
         sink: name(alloc, b"out")?,
-        value,
+        value: Expr::Ident(name(alloc, b"in")?),
     })?;
-    let module = Module {
+    Ok(Module {
         line: 2,
-        name: name(alloc, b"Add")?,
+        name: name(alloc, b"Copy")?,
         ports: Seq::of(ports),
         body: Seq::of(body),
-    };
+    })
+}
+
+fn copy(alloc: Global) -> Result<Design, Fail> {
     let circuit = Circuit {
         line: 1,
-        name: name(alloc, b"Add")?,
-        module,
+        name: name(alloc, b"Copy")?,
+        module: module(alloc)?,
     };
     Ok(build(alloc, &circuit)?)
 }
 
-fn poke(alloc: Global, line: u32, port: &[u8], value: u128) -> Result<TestStmt, Fail> {
+/// A test that pokes one port.
+fn poke(alloc: Global, port: &[u8], value: u128) -> Result<TestText, Fail> {
     let port = name(alloc, port)?;
-    Ok(TestStmt::Poke { line, port, value })
-}
-
-fn peek(alloc: Global, line: u32, port: &[u8]) -> Result<TestStmt, Fail> {
-    let port = name(alloc, port)?;
-    Ok(TestStmt::Peek { line, port })
-}
-
-fn expect(alloc: Global, line: u32, port: &[u8], value: u128) -> Result<TestStmt, Fail> {
-    let port = name(alloc, port)?;
-    Ok(TestStmt::Expect { line, port, value })
+    let mut body = Vec::new(alloc);
+    body.push(TestStmt::Poke {
+        line: 1,
+        port,
+        value,
+    })?;
+    Ok(TestText {
+        body: Seq::of(body),
+    })
 }
 
 #[test]
-fn an_adder_is_run(rt: HostRuntime) -> Result<(), Fail> {
-    let alloc = rt.alloc();
-    let design = adder(alloc)?;
-    let mut body = Vec::new(alloc);
-    body.push(poke(alloc, 1, b"a", 3)?)?;
-    body.push(poke(alloc, 2, b"b", 4)?)?;
-    body.push(peek(alloc, 3, b"out")?)?;
-    body.push(expect(alloc, 4, b"out", 7)?)?;
-    body.push(TestStmt::Step { line: 5 })?;
-    body.push(expect(alloc, 6, b"a", 4)?)?;
-    let test = TestText { body: Seq::of(body) };
-    let acts = check_test(alloc, &test, design.ports())?;
-    assert_eq!(rt; acts.items().len(), 6);
-    let run = run_first(alloc, &design, acts.items())?;
+fn a_copy_is_run(rt: HostRuntime) -> Result<(), Fail> {
+    let design = copy(rt.alloc())?;
+    let (input, output) = (Signal(0), Signal(1));
+    let acts = [
+        Act::Expect {
+            line: 1,
+            port: output,
+            wanted: 0,
+        },
+        Act::Poke {
+            line: 2,
+            port: input,
+            raw: 3,
+        },
+        Act::Arrive { line: 3 },
+        Act::Expect {
+            line: 4,
+            port: output,
+            wanted: 4,
+        },
+    ];
+    let run = run_first(rt.alloc(), &design, &acts)?;
     assert_eq!(rt; run.outcome, Outcome::Failed { time: 1 });
-    assert_eq!(rt; run.actions, 7);
-    let [seen, failed] = run.observations.items() else {
-        return Err("not two records".into());
-    };
-    assert_eq!(rt; (seen.time, seen.place, seen.line, seen.port), (0, 2, 3, Signal(2)));
-    assert_eq!(rt; (seen.value, seen.wanted), (7, None));
-    assert_eq!(rt; (failed.time, failed.place, failed.line, failed.port), (1, 5, 6, Signal(0)));
-    assert_eq!(rt; (failed.value, failed.wanted), (3, Some(4)));
+    assert_eq!(rt; run.actions, 5);
+    for seen in run.observations.items() {
+        assert_eq!(rt;
+            (seen.time, seen.place, seen.line, seen.port),
+            (1, 3, 4, output)
+        );
+        assert_eq!(rt; (seen.value, seen.wanted), (3, Some(4)));
+    }
+    assert_eq!(rt; run.observations.items().len(), 1);
+    Ok(())
+}
+
+#[test]
+fn an_input_is_poked(rt: HostRuntime) -> Result<(), Fail> {
+    let design = copy(rt.alloc())?;
+    let test = poke(rt.alloc(), b"in", 255)?;
+    let acts = check_test(rt.alloc(), &test, design.ports())?;
+    let wanted = [Act::Poke {
+        line: 1,
+        port: Signal(0),
+        raw: 255,
+    }];
+    assert_eq!(rt; acts.items(), wanted.as_slice());
     Ok(())
 }
 
 #[test]
 fn an_output_is_not_poked(rt: HostRuntime) -> Result<(), Fail> {
-    let alloc = rt.alloc();
-    let design = adder(alloc)?;
-    let mut body = Vec::new(alloc);
-    body.push(poke(alloc, 1, b"out", 1)?)?;
-    let test = TestText { body: Seq::of(body) };
-    assert_eq!(rt; check_test(alloc, &test, design.ports()).err(), Some(TestFault::NotInForm));
+    let design = copy(rt.alloc())?;
+    let test = poke(rt.alloc(), b"out", 1)?;
+    assert_eq!(rt;
+        check_test(rt.alloc(), &test, design.ports()).err(),
+        Some(TestFault::NotInForm)
+    );
     Ok(())
 }

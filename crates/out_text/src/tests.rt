@@ -11,41 +11,40 @@ fn name(alloc: Global, text: &[u8]) -> Result<Name, Fail> {
     Ok(Name::of(text.to_vec(alloc)?))
 }
 
-/// A circuit `Copy` whose output `out` has the value of its input `in`, both of nine bits.
-fn copy(alloc: Global) -> Result<Design, Fail> {
-    let mut ports = Vec::new(alloc);
-    let input = name(alloc, b"in")?;
-    ports.push(Port {
+fn port(alloc: Global, output: bool, text: &[u8]) -> Result<Port, Fail> {
+    let name = name(alloc, text)?;
+    Ok(Port {
         line: 3,
-        output: false,
-        name: input,
+        output,
+        name,
         width: 9,
-    })?;
-    let output = name(alloc, b"out")?;
-    ports.push(Port {
-        line: 4,
-        output: true,
-        name: output,
-        width: 9,
-    })?;
+    })
+}
+
+/// A module whose output `out` has the value of its input `in`, both of nine bits.
+fn module(alloc: Global) -> Result<Module, Fail> {
+    let mut ports = Vec::new(alloc);
+    ports.push(port(alloc, false, b"in")?)?;
+    ports.push(port(alloc, true, b"out")?)?;
     let mut body = Vec::new(alloc);
-    let sink = name(alloc, b"out")?;
-    let value = Expr::Ident(name(alloc, b"in")?);
     body.push(Stmt::Connect {
         line: 5,
-        sink,
-        value,
+        sink: name(alloc, b"out")?,
+        value: Expr::Ident(name(alloc, b"in")?),
     })?;
-    let module = Module {
+    Ok(Module {
         line: 2,
         name: name(alloc, b"Copy")?,
         ports: Seq::of(ports),
         body: Seq::of(body),
-    };
+    })
+}
+
+fn copy(alloc: Global) -> Result<Design, Fail> {
     let circuit = Circuit {
         line: 1,
         name: name(alloc, b"Copy")?,
-        module,
+        module: module(alloc)?,
     };
     Ok(build(alloc, &circuit)?)
 }
@@ -75,7 +74,8 @@ fn a_peek_and_a_failure(rt: HostRuntime) -> Result<(), Fail> {
         actions: 33,
         outcome: Outcome::Failed { time: 10 },
     };
-    let wanted = b"circuit Copy\n10 / 21 peek out = 300\n10 / 22 expect out = 0 wanted 256\nfailed at 10 after 33 actions, 2 records\n";
+    let wanted =
+        b"circuit Copy\n10 / 21 peek out = 300\n10 / 22 expect out = 0 wanted 256\nfailed at 10 after 33 actions, 2 records\n";
     assert_eq!(rt; report(alloc, &design, &run)?.as_slice(), wanted.as_slice());
     Ok(())
 }
