@@ -1,5 +1,5 @@
 #!/usr/bin/env python3
-"""Time and peak memory of a run over texts near their limits, at a quarter, a half and the whole.
+"""Processor time and peak memory of a run over texts near their limits, at a quarter, a half and the whole.
 
     bench/first_path.py [PROGRAM]
 
@@ -53,24 +53,65 @@ def test(size):
         k += 1
 
 
+def spawned(program, names, output):
+    """A run of the program, begun, with its standard output on a file descriptor."""
+    return os.posix_spawn(program, [program, 'run'] + names, os.environ,
+                          file_actions=[(os.POSIX_SPAWN_DUP2, output, 1)])
+
+
+def processor_time(program, names):
+    """The least processor time of some runs in milliseconds, and the status of the last."""
+    best, status = None, None
+    with open(os.devnull, 'w') as sink:
+        for _ in range(ROUNDS):
+            child = spawned(program, names, sink.fileno())
+            _, status, usage = os.wait4(child, 0)
+            taken = (usage.ru_utime + usage.ru_stime) * 1000
+            best = taken if best is None else min(best, taken)
+    return best, os.waitstatus_to_exitcode(status)
+
+
+def is_asleep(child):
+    with open(f'/proc/{child}/stat') as file:
+        return file.read().rpartition(')')[2].split()[0] == 'S'
+
+
+def peak_memory(program, names):
+    """The greatest resident memory of a run in KiB.
+
+    The run writes into a full pipe, so that it sleeps at its first write, when all that it makes has been made.
+    """
+    end, start = os.pipe()
+    os.set_blocking(start, False)
+    try:
+        while True:
+            os.write(start, bytes(4096))
+    except BlockingIOError:
+        os.set_blocking(start, True)
+    child = spawned(program, names, start)
+    os.close(start)
+    seen = 0
+    while seen < 5:
+        time.sleep(0.005)
+        seen = seen + 1 if is_asleep(child) else 0
+    with open(f'/proc/{child}/status') as file:
+        memory = next(int(line.split()[1]) for line in file if line.startswith('VmHWM:'))
+    while os.read(end, 65536):
+        pass
+    os.close(end)
+    os.waitpid(child, 0)
+    return memory
+
+
 def measured(program, folder, circuit_text, test_text):
-    """The least time in milliseconds and the greatest memory in KiB of some runs, with the status of the last."""
+    """Processor time in milliseconds, peak memory in KiB, and the status."""
     names = []
     for name, text in (('c.fir', circuit_text), ('t.test', test_text)):
         names.append(os.path.join(folder, name))
         with open(names[-1], 'w') as file:
             file.write(text)
-    best, memory, status = None, 0, None
-    for _ in range(ROUNDS):
-        with open(os.devnull, 'w') as sink:
-            before = time.perf_counter()
-            child = os.posix_spawn(program, [program, 'run'] + names, os.environ,
-                                   file_actions=[(os.POSIX_SPAWN_DUP2, sink.fileno(), 1)])
-            _, status, usage = os.wait4(child, 0)
-            taken = (time.perf_counter() - before) * 1000
-        best = taken if best is None else min(best, taken)
-        memory = max(memory, usage.ru_maxrss)
-    return best, memory, os.waitstatus_to_exitcode(status)
+    taken, status = processor_time(program, names)
+    return taken, peak_memory(program, names), status
 
 
 def main():
