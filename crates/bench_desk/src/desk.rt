@@ -51,10 +51,14 @@ pub trait Desk {
     /// Where a desk holds two files of that name, the first is meant.
     fn open_slot(&mut self, slot: Slot, name: &str) -> Result<(), Failed>
         ensures later { (meaning self.old).faults ≤ (meaning self.new).faults }
-        ensures ok { OnOk result (meaning self.new ≡ opened slot name.now (meaning self.old) (meaning self.new).faults) }
-        ensures held { OnOk result (IfSome (meaning self.old).files (λ f. IsSome (content f.held name.now))) }
-        ensures err { OnErr result (meaning self.new ≡ failed (meaning self.old) (meaning self.new).faults) }
-        ensures cause { OnErr result (Rose (meaning self.old).faults (meaning self.new).faults ⊎ LacksFile (meaning self.old) name.now) };
+        ensures ok { OnOk result (meaning self.new
+            ≡ opened slot name.now (meaning self.old) (meaning self.new).faults) }
+        ensures held { OnOk result (IfSome (meaning self.old).files (λ f.
+            IsSome (content f.held name.now))) }
+        ensures err { OnErr result (meaning self.new
+            ≡ failed (meaning self.old) (meaning self.new).faults) }
+        ensures cause { OnErr result (Rose (meaning self.old).faults (meaning self.new).faults
+            ⊎ LacksFile (meaning self.old) name.now) };
 
     /// Takes the next bytes of the slot's file into the front of the buffer, and says how many.
     ///
@@ -65,19 +69,28 @@ pub trait Desk {
         requires room { 0 < length buf.old }
         ensures later { (meaning self.old).faults ≤ (meaning self.new).faults }
         ensures bound { IfOk result (λ n. n ≤ length buf.new) }
-        ensures ok { IfOk result (λ n. meaning self.new ≡ pulled slot n (meaning self.old) (meaning self.new).faults) }
-        ensures bytes { IfOk result (λ n. IfSome (meaning self.old).files (λ f. IfSome (slot_of slot (meaning self.old)).place (λ p. take n buf.new ≡ take n (drop p.taken (place_bytes f.held p))))) }
-        ensures end { IfOk result (λ n. IfSome (meaning self.old).files (λ f. IfSome (slot_of slot (meaning self.old)).place (λ p. (n ≡ 0) ↔ (length (place_bytes f.held p) ≤ p.taken)))) }
-        ensures err { OnErr result (meaning self.new ≡ failed (meaning self.old) (meaning self.new).faults) }
+        ensures ok { IfOk result (λ n. meaning self.new
+            ≡ pulled slot n (meaning self.old) (meaning self.new).faults) }
+        ensures bytes { IfOk result (λ n. IfSome (meaning self.old).files (λ f.
+            IfSome (slot_of slot (meaning self.old)).place (λ p.
+            take n buf.new ≡ take n (drop p.taken (place_bytes f.held p))))) }
+        ensures end { IfOk result (λ n. IfSome (meaning self.old).files (λ f.
+            IfSome (slot_of slot (meaning self.old)).place (λ p. (n ≡ 0)
+            ↔ (length (place_bytes f.held p) ≤ p.taken)))) }
+        ensures err { OnErr result (meaning self.new
+            ≡ failed (meaning self.old) (meaning self.new).faults) }
         ensures cause { OnErr result (Rose (meaning self.old).faults (meaning self.new).faults) };
 
     /// Makes the file of that name for the waveform. What was put stays. A desk makes one file at most.
     fn create(&mut self, name: &str) -> Result<(), Failed>
         requires { (meaning self.old).has_wave ≡ false }
         ensures later { (meaning self.old).faults ≤ (meaning self.new).faults }
-        ensures ok { OnOk result (meaning self.new ≡ created name.now (meaning self.old) (meaning self.new).faults) }
-        ensures err { OnErr result (meaning self.new ≡ failed (meaning self.old) (meaning self.new).faults) }
-        ensures cause { OnErr result (Rose (meaning self.old).faults (meaning self.new).faults ⊎ LacksMaking (meaning self.old) name.now) };
+        ensures ok { OnOk result (meaning self.new
+            ≡ created name.now (meaning self.old) (meaning self.new).faults) }
+        ensures err { OnErr result (meaning self.new
+            ≡ failed (meaning self.old) (meaning self.new).faults) }
+        ensures cause { OnErr result (Rose (meaning self.old).faults (meaning self.new).faults
+            ⊎ LacksMaking (meaning self.old) name.now) };
 
     /// Puts the first of the bytes on the lane, at least one and at most all, and says how many.
     fn put(&mut self, lane: Lane, bytes: &[u8]) -> Result<usize, Failed>
@@ -85,7 +98,9 @@ pub trait Desk {
         requires some { 0 < length bytes.now }
         ensures later { (meaning self.old).faults ≤ (meaning self.new).faults }
         ensures bound { IfOk result (λ n. (0 < n) × (n ≤ length bytes.now)) }
-        ensures ok { IfOk result (λ n. meaning self.new ≡ put_on lane (take n bytes.now) (meaning self.old) (meaning self.new).faults) }
-        ensures err { OnErr result (meaning self.new ≡ failed (meaning self.old) (meaning self.new).faults) }
+        ensures ok { IfOk result (λ n. meaning self.new
+            ≡ put_on lane (take n bytes.now) (meaning self.old) (meaning self.new).faults) }
+        ensures err { OnErr result (meaning self.new
+            ≡ failed (meaning self.old) (meaning self.new).faults) }
         ensures cause { OnErr result (Rose (meaning self.old).faults (meaning self.new).faults) };
 }

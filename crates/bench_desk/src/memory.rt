@@ -70,7 +70,8 @@ impl MemoryDesk {
     ) -> Result<MemoryDesk, Memory>
         requires { 0 < piece }
         ensures meaning { IfOk result (λ d. memory_meaning d ≡ fresh files wave) }
-        ensures settings { IfOk result (λ d. settings d ≡ record { piece = piece; failing = failing; room = room }) }
+        ensures settings { IfOk result (λ d. settings d
+            ≡ record { piece = piece; failing = failing; room = room }) }
         ensures calls { IfOk result (λ d. d.calls ≡ 0) }
     {
         let report_bytes = Vec::with_capacity(alloc, room)?;

@@ -215,5 +215,5 @@ module_text m =
     ++ (flat_map port_text m.ports ++ block_text (map stmt_text m.body) (codes "    "))
 
 -- `circuit name :`, its modules
-abbrev pub printed : Circuit → List ℕ
+unfoldable pub printed : Circuit → List ℕ
 printed c = line_text [] (codes "circuit " ++ (c.name ++ codes " :")) ++ flat_map module_text c.modules

@@ -28,6 +28,7 @@ pub fn print(alloc: Global, circuit: &Circuit) -> Result<Vec<u8>, Memory>
     Ok(out)
 }
 
+#[tactic(auto, unfolding(crate::specs::Printed::printed))]
 fn put_circuit(alloc: Global, out: &mut Vec<u8>, circuit: &Circuit) -> Result<(), Memory>
     ensures { OnOk result (out.new.items ≡ out.old.items ++ printed circuit.now) }
 {

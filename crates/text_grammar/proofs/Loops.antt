@@ -1,12 +1,12 @@
 -- A loop over a part that is repeated at most so often.
-use Rattle.std.proofs.Common.{◌≡◌, ℕ, zero, suc, ◌+◌, ◌-◌, ◌<◌, ◌≤◌, Bool, true, false, List, [], ◌∷◌, ◌++◌, length, Result, Ok, Err, refl, sym, ap, ◌∙◌, append_assoc, arith}
+use Rattle.std.proofs.Common.{◌≡◌, ℕ, zero, suc, ◌+◌, ◌-◌, ◌<◌, Bool, true, false, List, [], ◌∷◌, ◌++◌, length, Ok, Err, refl, sym, ap, ◌∙◌, append_assoc, arith}
 use Rattle.std.proofs.lemmas.List.{append-nil}
 use Rattle.text_grammar.specs.declared.item.Item.{Item}
 use Rattle.text_grammar.specs.declared.fault.Kind.TheVariants.{TooDeep}
 use Rattle.text_grammar.specs.declared.fault.ReadError.{ReadError}
 use Rattle.text_grammar.specs.declared.fault.ReadError.TheVariants as errors
 use Rattle.text_grammar.proofs.Reading.{gathered, gathered_none}
-use Rattle.text_grammar.specs.Part.{Outcome, ◌>>=◌, Part, Fails, starts, either, both, nothing, stop, cons, many_up_to, carried}
+use Rattle.text_grammar.specs.Part.{Outcome, ◌>>=◌, Part, Fails, starts, either, both, nothing, stop, cons, many_up_to}
 
 regroup : {A : Type 0} (front : List A) (a : A) (o : Outcome (List A)) → gathered front (o >>= λ y. Ok (cons a y.0, y.1)) ≡ gathered (front ++ a ∷ []) o
 regroup front a (Ok x) = ap (λ (z : List _). Ok (z, x.1)) (sym (append_assoc front (a ∷ []) x.0))

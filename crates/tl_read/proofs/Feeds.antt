@@ -1,6 +1,6 @@
 -- No piece of a text goes past a line feed.
 use Rattle.std.proofs.Common.{◌≡◌, ℕ, zero, suc, ◌+◌, ◌-◌, ◌<◌, ◌≤◌, Bool, true, false, cond, List, [], ◌∷◌, length, take, drop, get_or, Option, Some, None, refl, sym, ap, subst, ◌∙◌, arith, add-zero}
-use Rattle.std.specs.Prelude.{◌==◌, ◌&&◌, ◌||◌, not}
+use Rattle.std.specs.Prelude.{◌==◌, ◌&&◌, not}
 use Rattle.std.specs.Char.{is_ascii_digit}
 use Rattle.std.specs.List.{prefix_len}
 use Rattle.std.specs.Str.{bytes_eq}
@@ -8,11 +8,10 @@ use Rattle.std.proofs.lemmas.Bool.{eqb-true}
 use Rattle.std.proofs.lemmas.Slice.Eq.{bytes_eq-Decides}
 use Rattle.tb_base.specs.declared.place.Place.{Place}
 use Rattle.text_grammar.specs.declared.item.Symbol.{Symbol}
-use Rattle.text_grammar.specs.declared.item.Item.{Item}
 use Rattle.text_grammar.specs.declared.item.Token.TheVariants as token
 use Rattle.text_grammar.specs.declared.lex.Class.TheVariants as class
 use Rattle.text_grammar.specs.declared.lex.Piece.{Piece}
-use Rattle.text_grammar.specs.Lex.{begins_word, is_in, run, word, decimal, place_past}
+use Rattle.text_grammar.specs.Lex.{begins_word, is_in, word, decimal, place_past}
 use Rattle.tl_read.specs.Lex.{is_blank, doubles, singles, spelled, or_else, symbol, piece, placed, place_after, items_from}
 
 no_feed : List ℕ → Bool

@@ -11,7 +11,9 @@ use crate::desk::{Desk, DeskFile, Failed, Lane, Phase, Slot};
 
 /// The first file of that name.
 fn position_of(files: &[DeskFile], name: &[u8]) -> Option<usize>
-    ensures some { IfSome result (λ i. (i < length files.now) × (content files.now name.now ≡ Some (file_at files.now i).bytes) × ((file_at files.now i).name ≡ name.now)) }
+    ensures some { IfSome result (λ i. (i < length files.now)
+        × (content files.now name.now ≡ Some (file_at files.now i).bytes)
+        × ((file_at files.now i).name ≡ name.now)) }
     ensures none { IfNone result (content files.now name.now ≡ None) }
 {
     for (i, file) in files.iter().enumerate() {
@@ -38,9 +40,11 @@ impl MemoryDesk {
     /// Counts a call, and says whether it is one that fails.
     fn fails(&mut self) -> bool
         ensures listed { result ≡ fails_next self.old }
-        ensures faults { self.new.faults ≡ (if result then counted self.old.faults else self.old.faults) }
+        ensures faults { self.new.faults ≡
+            (if result then counted self.old.faults else self.old.faults) }
         ensures later { self.old.faults ≤ self.new.faults }
-        ensures same { self.new ≡ record self.old { calls = counted self.old.calls; faults = self.new.faults } }
+        ensures same { self.new
+            ≡ record self.old { calls = counted self.old.calls; faults = self.new.faults } }
     {
         let number = self.calls;
         self.calls = self.calls.saturating_add(1);
@@ -62,7 +66,8 @@ impl MemoryDesk {
 
     fn set_reader(&mut self, slot: Slot, reader: Reader)
         requires { IsPlaced self.old.files reader.phase reader.file reader.taken }
-        ensures meaning { memory_meaning self.new ≡ with_reader slot reader self.old.files (memory_meaning self.old) }
+        ensures meaning { memory_meaning self.new
+            ≡ with_reader slot reader self.old.files (memory_meaning self.old) }
         ensures calls { self.new.calls ≡ self.old.calls }
         ensures settings { settings self.new ≡ settings self.old }
     {
@@ -79,12 +84,18 @@ impl Desk for MemoryDesk {
     /// Fails exactly where the call's number is among those that fail, or no file has that name.
     fn open_slot(&mut self, slot: Slot, name: &str) -> Result<(), Failed>
         ensures later { (memory_meaning self.old).faults ≤ (memory_meaning self.new).faults }
-        ensures ok { OnOk result (memory_meaning self.new ≡ opened slot name.now (memory_meaning self.old) (memory_meaning self.new).faults) }
-        ensures held { OnOk result (IfSome (memory_meaning self.old).files (λ f. IsSome (content f.held name.now))) }
-        ensures err { OnErr result (memory_meaning self.new ≡ failed (memory_meaning self.old) (memory_meaning self.new).faults) }
-        ensures cause { OnErr result (Rose (memory_meaning self.old).faults (memory_meaning self.new).faults ⊎ LacksFile (memory_meaning self.old) name.now) }
-        ensures exactly { is_err result ≡ (fails_next self.old || not (is_some (content self.old.files name.now))) }
-        ensures faults { self.new.faults ≡ (if fails_next self.old then counted self.old.faults else self.old.faults) }
+        ensures ok { OnOk result (memory_meaning self.new
+            ≡ opened slot name.now (memory_meaning self.old) (memory_meaning self.new).faults) }
+        ensures held { OnOk result (IfSome (memory_meaning self.old).files (λ f.
+            IsSome (content f.held name.now))) }
+        ensures err { OnErr result (memory_meaning self.new
+            ≡ failed (memory_meaning self.old) (memory_meaning self.new).faults) }
+        ensures cause { OnErr result (Rose (memory_meaning self.old).faults
+            (memory_meaning self.new).faults ⊎ LacksFile (memory_meaning self.old) name.now) }
+        ensures exactly { is_err result ≡ (fails_next self.old || not (is_some
+            (content self.old.files name.now))) }
+        ensures faults { self.new.faults ≡
+            (if fails_next self.old then counted self.old.faults else self.old.faults) }
         ensures next { IsNextCall self.old self.new }
     {
         if self.fails() {
@@ -111,14 +122,25 @@ impl Desk for MemoryDesk {
         requires room { 0 < length buf.old }
         ensures later { (memory_meaning self.old).faults ≤ (memory_meaning self.new).faults }
         ensures bound { IfOk result (λ n. n ≤ length buf.new) }
-        ensures ok { IfOk result (λ n. memory_meaning self.new ≡ pulled slot n (memory_meaning self.old) (memory_meaning self.new).faults) }
-        ensures bytes { IfOk result (λ n. IfSome (memory_meaning self.old).files (λ f. IfSome (slot_of slot (memory_meaning self.old)).place (λ p. take n buf.new ≡ take n (drop p.taken (place_bytes f.held p))))) }
-        ensures end { IfOk result (λ n. IfSome (memory_meaning self.old).files (λ f. IfSome (slot_of slot (memory_meaning self.old)).place (λ p. (n ≡ 0) ↔ (length (place_bytes f.held p) ≤ p.taken)))) }
-        ensures err { OnErr result (memory_meaning self.new ≡ failed (memory_meaning self.old) (memory_meaning self.new).faults) }
-        ensures cause { OnErr result (Rose (memory_meaning self.old).faults (memory_meaning self.new).faults) }
-        ensures amount { IfOk result (λ n. IfSome (memory_meaning self.old).files (λ f. IfSome (slot_of slot (memory_meaning self.old)).place (λ p. n ≡ min (min (length (place_bytes f.held p) - p.taken) (length buf.old)) self.old.piece))) }
+        ensures ok { IfOk result (λ n. memory_meaning self.new
+            ≡ pulled slot n (memory_meaning self.old) (memory_meaning self.new).faults) }
+        ensures bytes { IfOk result (λ n. IfSome (memory_meaning self.old).files (λ f.
+            IfSome (slot_of slot (memory_meaning self.old)).place (λ p.
+            take n buf.new ≡ take n (drop p.taken (place_bytes f.held p))))) }
+        ensures end { IfOk result (λ n. IfSome (memory_meaning self.old).files (λ f.
+            IfSome (slot_of slot (memory_meaning self.old)).place (λ p. (n ≡ 0)
+            ↔ (length (place_bytes f.held p) ≤ p.taken)))) }
+        ensures err { OnErr result (memory_meaning self.new
+            ≡ failed (memory_meaning self.old) (memory_meaning self.new).faults) }
+        ensures cause { OnErr result (Rose (memory_meaning self.old).faults
+            (memory_meaning self.new).faults) }
+        ensures amount { IfOk result (λ n. IfSome (memory_meaning self.old).files (λ f.
+            IfSome (slot_of slot (memory_meaning self.old)).place (λ p.
+            n ≡ min (min (length (place_bytes f.held p) - p.taken)
+            (length buf.old)) self.old.piece))) }
         ensures exactly { is_err result ≡ fails_next self.old }
-        ensures faults { self.new.faults ≡ (if fails_next self.old then counted self.old.faults else self.old.faults) }
+        ensures faults { self.new.faults ≡
+            (if fails_next self.old then counted self.old.faults else self.old.faults) }
         ensures next { IsNextCall self.old self.new }
     {
         if self.fails() {
@@ -145,11 +167,16 @@ impl Desk for MemoryDesk {
     fn create(&mut self, name: &str) -> Result<(), Failed>
         requires { self.old.made ≡ false }
         ensures later { (memory_meaning self.old).faults ≤ (memory_meaning self.new).faults }
-        ensures ok { OnOk result (memory_meaning self.new ≡ created name.now (memory_meaning self.old) (memory_meaning self.new).faults) }
-        ensures err { OnErr result (memory_meaning self.new ≡ failed (memory_meaning self.old) (memory_meaning self.new).faults) }
-        ensures cause { OnErr result (Rose (memory_meaning self.old).faults (memory_meaning self.new).faults ⊎ LacksMaking (memory_meaning self.old) name.now) }
-        ensures exactly { is_err result ≡ (fails_next self.old || not (bytes_eq self.old.can_make name.now)) }
-        ensures faults { self.new.faults ≡ (if fails_next self.old then counted self.old.faults else self.old.faults) }
+        ensures ok { OnOk result (memory_meaning self.new
+            ≡ created name.now (memory_meaning self.old) (memory_meaning self.new).faults) }
+        ensures err { OnErr result (memory_meaning self.new
+            ≡ failed (memory_meaning self.old) (memory_meaning self.new).faults) }
+        ensures cause { OnErr result (Rose (memory_meaning self.old).faults
+            (memory_meaning self.new).faults ⊎ LacksMaking (memory_meaning self.old) name.now) }
+        ensures exactly { is_err result ≡ (fails_next self.old || not
+            (bytes_eq self.old.can_make name.now)) }
+        ensures faults { self.new.faults ≡
+            (if fails_next self.old then counted self.old.faults else self.old.faults) }
         ensures next { IsNextCall self.old self.new }
     {
         if self.fails() {
@@ -169,12 +196,18 @@ impl Desk for MemoryDesk {
         requires some { 0 < length bytes.now }
         ensures later { (memory_meaning self.old).faults ≤ (memory_meaning self.new).faults }
         ensures bound { IfOk result (λ n. (0 < n) × (n ≤ length bytes.now)) }
-        ensures ok { IfOk result (λ n. memory_meaning self.new ≡ put_on lane (take n bytes.now) (memory_meaning self.old) (memory_meaning self.new).faults) }
-        ensures err { OnErr result (memory_meaning self.new ≡ failed (memory_meaning self.old) (memory_meaning self.new).faults) }
-        ensures cause { OnErr result (Rose (memory_meaning self.old).faults (memory_meaning self.new).faults) }
+        ensures ok { IfOk result (λ n. memory_meaning self.new
+            ≡ put_on lane (take n bytes.now) (memory_meaning self.old)
+            (memory_meaning self.new).faults) }
+        ensures err { OnErr result (memory_meaning self.new
+            ≡ failed (memory_meaning self.old) (memory_meaning self.new).faults) }
+        ensures cause { OnErr result (Rose (memory_meaning self.old).faults
+            (memory_meaning self.new).faults) }
         ensures amount { IfOk result (λ n. n ≡ put_count self.old (length bytes.now)) }
-        ensures exactly { is_err result ≡ (fails_next self.old || passes_room self.old (length bytes.now)) }
-        ensures faults { self.new.faults ≡ (if fails_next self.old || passes_room self.old (length bytes.now) then counted self.old.faults else self.old.faults) }
+        ensures exactly { is_err result ≡ (fails_next self.old || passes_room self.old
+            (length bytes.now)) }
+        ensures faults { self.new.faults ≡ (if fails_next self.old || passes_room self.old
+            (length bytes.now) then counted self.old.faults else self.old.faults) }
         ensures next { IsNextCall self.old self.new }
     {
         if self.fails() {

@@ -1,10 +1,11 @@
 use Rattle.std.proofs.Common.{refl}
 use Rattle.std.specs.Fmt.{digits}
+use Rattle.fir_ast.specs.Printed.{printed}
 use Rattle.fir_ast.proofs.Rows.{uint_text, sint_text, vector_text, bundle_of_text, clock_text, field_of_text, ident_text, part_text, at_text, index_text, lit_text, apply_text, wire_text, node_text, inst_text, connect_text, invalid_text, reg_text, when_text, skip_text, verif_text}
 use Rattle.fir_ast.proofs.examples.the_printed_form_works_out.Goals as goal
 
 pub returns : goal.returns
-unfolding digits
+unfolding digits printed
 returns c = record {
   whole_circuit = simp (uint_text, ident_text, apply_text, connect_text) refl;
   signed_literal = simp (lit_text) refl;
