@@ -1,5 +1,5 @@
 -- One level of a fold over a type, a statement or an expression, at each variant.
-use Rattle.std.proofs.Common.{ℕ, Bool, Option, List, ◌≡◌, refl, sym, ap, ◌∙◌, map}
+use Rattle.std.proofs.Common.{ℕ, Bool, Option, List, ◌≡◌, sym, ap, ◌∙◌, map}
 use Rattle.fir_ast.specs.declared.tree.Ty.{Ty}
 use Rattle.fir_ast.specs.declared.tree.Ty.TheVariants as ty
 use Rattle.fir_ast.specs.declared.tree.Ty.TheVariants.{rolls-UInt, rolls-SInt, rolls-Clock, rolls-Reset, rolls-Bundle, rolls-Vector}

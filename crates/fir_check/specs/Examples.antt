@@ -1,5 +1,5 @@
 -- Worked examples: shapes of types, and circuits and statements that break rules, most of them one alone.
-use Rattle.std.specs.Prelude.{ℕ, ◌≡◌, Bool, false, true, Some, None, List, [], ◌∷◌, codes}
+use Rattle.std.specs.Prelude.{ℕ, ◌≡◌, false, true, Some, None, List, [], ◌∷◌, codes}
 use Rattle.fir_ast.specs.declared.tree.Ty.{Ty}
 use Rattle.fir_ast.specs.declared.tree.Ty.TheVariants.{UInt, SInt, Clock, Reset, Bundle, Vector}
 use Rattle.fir_ast.specs.declared.tree.Ty.TheViews.{roll-Field}

@@ -1,7 +1,7 @@
 -- The seven rules, each as the lines that break it, and `circuit_rule`, the least of these lines.
 --
 -- A rule says nothing of an expression whose meaning isn't known: the rule on unknown names speaks of it.
-use Rattle.std.specs.Prelude.{ℕ, zero, suc, Bool, true, false, not, ◌&&◌, ◌||◌, nat_lt, nat_le, if◌then◌else◌, Option, Some, None, is_some, is_none, List, [], ◌∷◌, ◌++◌, map, flat_map, filter, take, drop, length, bytes_eq, option_to_list}
+use Rattle.std.specs.Prelude.{ℕ, zero, suc, Bool, false, not, ◌&&◌, ◌||◌, nat_lt, nat_le, if◌then◌else◌, Option, Some, None, is_some, is_none, List, [], ◌∷◌, ◌++◌, map, flat_map, filter, take, drop, length, bytes_eq, option_to_list}
 use Rattle.std.specs.List.{list_any, list_all}
 use Rattle.tb_base.specs.Row.{signs_fit}
 use Rattle.tb_base.specs.declared.op.Op.{Op}
@@ -9,19 +9,18 @@ use Rattle.tb_base.specs.declared.op.Op.TheVariants.{Mux}
 use Rattle.fir_ast.specs.declared.tree.Ty.{Ty}
 use Rattle.fir_ast.specs.declared.tree.Expr.{Expr}
 use Rattle.fir_ast.specs.declared.tree.Expr.TheViews.{out-Expr}
-use Rattle.fir_ast.specs.declared.tree.Expr.TheOpen.{Expr-F, Ident, Part, At, Index, Lit, Apply}
+use Rattle.fir_ast.specs.declared.tree.Expr.TheOpen.{Expr-F, Ident, Part, At, Index, Apply}
 use Rattle.fir_ast.specs.declared.tree.ResetPair.{ResetPair}
 use Rattle.fir_ast.specs.declared.tree.VerifKind.{VerifKind}
-use Rattle.fir_ast.specs.declared.tree.Stmt.{Stmt}
 use Rattle.fir_ast.specs.declared.tree.Stmt.TheFolds.{fold-Stmt}
-use Rattle.fir_ast.specs.declared.tree.Stmt.TheOpen.{Stmt-F, Wire, Node, Reg, Inst, Connect, Invalid, When, Skip, Verif}
+use Rattle.fir_ast.specs.declared.tree.Stmt.TheOpen.{Stmt-F, Wire, Node, Reg, Inst, Connect, Invalid, When, Verif}
 use Rattle.fir_ast.specs.declared.tree.Port.{Port}
 use Rattle.fir_ast.specs.declared.tree.Module.{Module}
 use Rattle.fir_ast.specs.declared.tree.Circuit.{Circuit}
 use Rattle.fir_ast.specs.Printed.{operands_before}
 use Rattle.fir_check.specs.Names.{seconds, firsts}
-use Rattle.fir_check.specs.Types.{is_ground, is_clock, is_signed, is_uint, is_unsigned, is_bundle, field_named, vector_of, repeats_field, has_flip, holds_clock, same, Leaf, leaves, same_shape}
-use Rattle.fir_check.specs.Scopes.{turned, may_be_driven, Thing, Known, is_declared, visible, added, free_known, Level, LevelRule, operand, is_signed_thing, somewhere, meaning_of, module_name, port_name, module_named, Walk, StmtRule, body_lines}
+use Rattle.fir_check.specs.Types.{is_ground, is_clock, is_uint, is_unsigned, is_bundle, field_named, vector_of, repeats_field, has_flip, holds_clock, same, leaves, same_shape}
+use Rattle.fir_check.specs.Scopes.{turned, may_be_driven, Thing, Known, is_declared, visible, added, free_known, LevelRule, operand, is_signed_thing, somewhere, meaning_of, module_name, port_name, module_named, Walk, StmtRule, body_lines}
 
 -- the main module has the circuit's name
 abbrev pub main_of : Circuit → Option Module

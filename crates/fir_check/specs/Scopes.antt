@@ -2,7 +2,7 @@
 --
 -- A name is declared for the rest of its block and the blocks inside. A module declares each name once: a second
 -- declaration declares nothing, and its name means the first.
-use Rattle.std.specs.Prelude.{ℕ, zero, suc, Bool, true, false, not, ◌&&◌, ◌||◌, if◌then◌else◌, Option, Some, None, List, [], ◌∷◌, ◌++◌, map, flat_map, find, length, slice_get, option_map, option_and_then, bytes_eq}
+use Rattle.std.specs.Prelude.{ℕ, zero, suc, Bool, true, false, not, ◌&&◌, ◌||◌, if◌then◌else◌, Option, Some, None, List, [], ◌∷◌, ◌++◌, map, find, length, slice_get, option_map, option_and_then, bytes_eq}
 use Rattle.std.specs.List.{list_any}
 use Rattle.tb_base.specs.Row.{row_signed}
 use Rattle.tb_base.specs.declared.op.Op.{Op}
