@@ -7,13 +7,13 @@ use Rattle.fir_ast.specs.declared.tree.Field.{Field}
 use Rattle.fir_ast.specs.declared.tree.Expr.{Expr}
 use Rattle.fir_ast.specs.declared.tree.Expr.TheVariants.{Ident, Lit}
 use Rattle.fir_ast.specs.declared.tree.Stmt.{Stmt}
-use Rattle.fir_ast.specs.declared.tree.Stmt.TheVariants.{Wire, Inst, When, Skip}
+use Rattle.fir_ast.specs.declared.tree.Stmt.TheVariants.{Wire, Node, Inst, Connect, Invalid, When, Skip}
 use Rattle.fir_ast.specs.declared.tree.Stmt.TheOpen as at
 use Rattle.fir_ast.specs.declared.tree.Port.{Port}
 use Rattle.fir_ast.specs.declared.tree.Module.{Module}
 use Rattle.fir_ast.specs.declared.tree.Circuit.{Circuit}
 use Rattle.fir_check.specs.Scopes.{Known, Source, thing, fresh, hidden, free_known}
-use Rattle.fir_check.specs.Rules.{NoMain, DoubleName, WrongKind, ClockUse, double_name_lines, unknown_name_lines, instance_cycle_lines, unknown_at, wrong_at, flow_at, clock_at, circuit_rule}
+use Rattle.fir_check.specs.Rules.{NoMain, DoubleName, WrongKind, ClockUse, double_name_lines, unknown_name_lines, instance_cycle_lines, wrong_kind_lines, wrong_flow_lines, clock_use_lines, unknown_at, wrong_at, flow_at, clock_at, circuit_rule}
 use Rattle.fir_check.specs.Types.{same_shape, has_flip, holds_clock, repeats_field}
 
 abbrev plain : List ℕ → Ty → Field
@@ -116,3 +116,12 @@ pub record StatementExamples : Type 0 where
   pub input_driven : flow_at here (at.Connect 6 a (Lit false None false 1)) ≡ true
   pub wire_driven : flow_at here (at.Connect 6 w (Lit true None false 1)) ≡ false
   pub clock_copied : clock_at [] empty here (at.Node 6 (codes "n") c) ≡ true
+
+pub record LineExamples : Type 0 where
+  pub all_kept : circuit_rule (alone []) ≡ None
+  pub field_twice : circuit_rule (of_ports (input 3 (codes "c") Clock ∷ input 4 (codes "b") (Bundle (plain (codes "x") u8 ∷ plain (codes "x") u8 ∷ [])) ∷ [])) ≡ Some (DoubleName, 4)
+  -- a name isn't known behind its block
+  pub hidden_name : unknown_name_lines (alone (When 5 a (Wire 6 (codes "w") u8 ∷ []) [] ∷ Invalid 7 w ∷ [])) ≡ 7 ∷ []
+  pub signed_condition : wrong_kind_lines (alone (Wire 5 (codes "w") (SInt (Some 1)) ∷ When 6 w [] [] ∷ [])) ≡ 6 ∷ []
+  pub input_driven : wrong_flow_lines (alone (Skip 5 ∷ Connect 6 a (Lit false None false 1) ∷ [])) ≡ 6 ∷ []
+  pub clock_copied : clock_use_lines (alone (Skip 5 ∷ Node 6 (codes "n") c ∷ [])) ≡ 6 ∷ []

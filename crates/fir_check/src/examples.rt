@@ -1,6 +1,6 @@
 //! Laws that say what the definitions of the rules give for types, circuits and statements that a
 //! reader can follow.
-ghost use Rattle.fir_check.specs.Examples.{CircuitExamples, ShapeExamples, StatementExamples};
+ghost use Rattle.fir_check.specs.Examples.{CircuitExamples, LineExamples, ShapeExamples, StatementExamples};
 
 /// A law: shapes of types, worked out.
 pub fn the_shapes_work_out()
@@ -15,4 +15,9 @@ pub fn the_circuits_work_out()
 /// A law: statements that keep or break a rule, worked out.
 pub fn the_statements_work_out()
     ensures { StatementExamples }
+{}
+
+/// A law: lines of circuits that break one rule, worked out.
+pub fn the_lines_work_out()
+    ensures { LineExamples }
 {}

@@ -8,5 +8,7 @@
 mod examples;
 mod main_module;
 
-pub use examples::{the_circuits_work_out, the_shapes_work_out, the_statements_work_out};
+pub use examples::{
+    the_circuits_work_out, the_lines_work_out, the_shapes_work_out, the_statements_work_out,
+};
 pub use main_module::missing_main;
