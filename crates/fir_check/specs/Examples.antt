@@ -13,7 +13,7 @@ use Rattle.fir_ast.specs.declared.tree.Port.{Port}
 use Rattle.fir_ast.specs.declared.tree.Module.{Module}
 use Rattle.fir_ast.specs.declared.tree.Circuit.{Circuit}
 use Rattle.fir_check.specs.Scopes.{Known, Source, thing, fresh, hidden, free_known}
-use Rattle.fir_check.specs.Rules.{NoMain, DoubleName, WrongKind, ClockUse, double_name_lines, unknown_name_lines, instance_cycle_lines, wrong_kind_lines, wrong_flow_lines, clock_use_lines, unknown_at, wrong_at, flow_at, clock_at, circuit_rule}
+use Rattle.fir_check.specs.Rules.{NoMain, DoubleName, UnknownName, WrongKind, ClockUse, double_name_lines, unknown_name_lines, instance_cycle_lines, wrong_kind_lines, wrong_flow_lines, clock_use_lines, unknown_at, wrong_at, flow_at, clock_at, circuit_rule}
 use Rattle.fir_check.specs.Types.{same_shape, has_flip, holds_clock, repeats_field}
 
 abbrev plain : List ℕ → Ty → Field
@@ -125,3 +125,10 @@ pub record LineExamples : Type 0 where
   pub signed_condition : wrong_kind_lines (alone (Wire 5 (codes "w") (SInt (Some 1)) ∷ When 6 w [] [] ∷ [])) ≡ 6 ∷ []
   pub input_driven : wrong_flow_lines (alone (Skip 5 ∷ Connect 6 a (Lit false None false 1) ∷ [])) ≡ 6 ∷ []
   pub clock_copied : clock_use_lines (alone (Skip 5 ∷ Node 6 (codes "n") c ∷ [])) ≡ 6 ∷ []
+  -- the flipped part of an output goes in, so a connect from the output must not drive it
+  pub source_driven :
+      wrong_flow_lines (circuit (module_at 2 (codes "M") (output 3 (codes "y") b_a ∷ []) (Wire 4 (codes "w") b_a ∷ Connect 5 w (Ident (codes "y")) ∷ []) ∷ []))
+      ≡ 5 ∷ []
+  pub clock_missing : clock_use_lines (beside (Inst 6 (codes "q") (codes "N") ∷ []) []) ≡ 6 ∷ []
+  -- on one line an unknown name is answered before a wrong flow
+  pub unknown_first : circuit_rule (alone (Skip 5 ∷ Connect 6 a (Ident (codes "y")) ∷ [])) ≡ Some (UnknownName, 6)
