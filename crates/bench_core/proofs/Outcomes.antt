@@ -1,6 +1,5 @@
 -- How a run ends, and what it recorded.
 use Rattle.std.proofs.Common.{◌≡◌, ℕ, ◌+◌, ◌==◌, Bool, true, false, ◌||◌, if◌then◌else◌, List, [], ◌∷◌, ◌++◌, length, Some, None, is_some, refl, ap, sym, ◌∙◌, arith}
-use Rattle.std.specs.List.{list_any}
 use Rattle.net_core.specs.declared.ports.Signal.{Signal}
 use Rattle.sim_plain.specs.Settled.{NetValue, DesignValue, net_in}
 use Rattle.bench_core.specs.declared.act.Act.{Act}

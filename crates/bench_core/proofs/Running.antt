@@ -1,10 +1,9 @@
 -- The run after some of its acts.
-use Rattle.std.proofs.Common.{◌≡◌, ℕ, suc, ◌+◌, ◌<◌, ◌≤◌, Bool, true, false, if◌then◌else◌, ◌==◌, Some, List, [], ◌∷◌, length, get_or, drop, refl, ap, sym, subst, ◌∙◌, arith, add-one, drop-cons}
+use Rattle.std.proofs.Common.{◌≡◌, ℕ, ◌+◌, ◌<◌, ◌≤◌, Bool, true, false, if◌then◌else◌, ◌==◌, Some, List, ◌∷◌, length, get_or, drop, refl, ap, sym, ◌∙◌, arith, add-one, drop-cons}
 use Rattle.sim_plain.specs.Settled.{NetValue, DesignValue, net_in}
 use Rattle.bench_core.specs.declared.act.Act.{Act}
 use Rattle.bench_core.specs.declared.act.Act.TheVariants.{Poke, Peek, Expect, Arrive}
 use Rattle.bench_core.specs.declared.run.Observation.{Observation}
-use Rattle.bench_core.specs.declared.run.Run.{Run}
 use Rattle.bench_core.specs.World.{World, first_world, number_at, observation, recorded, acted, counted, ended, is_over_at, run_from, run_of}
 
 -- after i acts the world's net is the design's, the acts that are left give the rest of the run,

@@ -1,7 +1,6 @@
 -- Worked examples on a circuit that adds two numbers of eight bits.
 use Rattle.std.specs.Prelude.{ℕ, ◌≡◌, true, false, List, [], ◌∷◌, Option, Some, None, codes}
 use Rattle.tb_base.specs.declared.path.Region.TheVariants.{Main}
-use Rattle.net_core.specs.declared.ports.PortInfo.{PortInfo}
 use Rattle.net_core.specs.declared.ports.Signal.{Signal}
 use Rattle.sim_plain.specs.declared.equation.Equation.TheVariants.{Input, Add}
 use Rattle.sim_plain.specs.Settled.{DesignValue}

@@ -1,5 +1,5 @@
 -- What holds of each run, whatever the circuit and the test.
-use Rattle.std.specs.Prelude.{ℕ, ◌≡◌, ◌+◌, Bool, true, false, List, length, is_some}
+use Rattle.std.specs.Prelude.{◌≡◌, ◌+◌, Bool, true, false, List, length, is_some}
 use Rattle.std.specs.List.{list_any}
 use Rattle.sim_plain.specs.Settled.{DesignValue}
 use Rattle.bench_core.specs.declared.act.Act.{Act}

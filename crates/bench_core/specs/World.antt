@@ -1,14 +1,12 @@
 -- A run of a test with one thread, as a world that goes through the test's acts.
 use Rattle.std.specs.Prelude.{ℕ, ◌+◌, ◌%◌, ◌^◌, Bool, true, false, ◌==◌, if◌then◌else◌, List, [], ◌∷◌, ◌++◌, length, replicate, slice_set, slice_index, Option, Some, None}
 use Rattle.tb_base.specs.Word.{low_bits, value_of}
-use Rattle.tb_base.specs.declared.path.Region.{Region}
 use Rattle.tb_base.specs.declared.path.Region.TheVariants.{Main}
 use Rattle.net_core.specs.declared.ports.Signal.{Signal}
 use Rattle.sim_plain.specs.Settled.{NetValue, DesignValue, net_in, settled_in}
 use Rattle.bench_core.specs.declared.act.Act.{Act}
 use Rattle.bench_core.specs.declared.act.Act.TheVariants.{Poke, Peek, Expect, Arrive}
 use Rattle.bench_core.specs.declared.run.Observation.{Observation}
-use Rattle.bench_core.specs.declared.run.Outcome.{Outcome}
 use Rattle.bench_core.specs.declared.run.Outcome.TheVariants.{Failed, Finished}
 use Rattle.bench_core.specs.declared.run.Run.{Run}
 

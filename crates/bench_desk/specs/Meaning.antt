@@ -9,7 +9,7 @@ use Rattle.bench_desk.specs.declared.desk.Slot.TheVariants.{Circuit, Test}
 use Rattle.bench_desk.specs.declared.desk.Lane.{Lane}
 use Rattle.bench_desk.specs.declared.desk.Lane.TheVariants.{Report, Wave}
 use Rattle.bench_desk.specs.declared.desk.Phase.{Phase}
-use Rattle.bench_desk.specs.declared.desk.Phase.TheVariants.{Closed, Reading, Ended}
+use Rattle.bench_desk.specs.declared.desk.Phase.TheVariants.{Reading, Ended}
 
 -- which file a slot has open, and how many of its bytes were taken
 pub record FilePlace : Type 0 where

@@ -1,4 +1,4 @@
-use Rattle.std.proofs.Common.{◌≡◌, ◌∙◌, sym, true, nat_le, arith}
+use Rattle.std.proofs.Common.{◌∙◌, sym}
 use Rattle.std.proofs.lemmas.Bool.{le-leb}
 use Rattle.bench_core.proofs.Fitting.{no_higher_bits, wide_enough}
 use Rattle.bench_core.proofs.act.has_bits.Goals as goal
