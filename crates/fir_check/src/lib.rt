@@ -1,0 +1,14 @@
+//! The rules that a circuit keeps before it is elaborated.
+//!
+//! `specs/` has a definition for each rule: `Types` has types as the rules see them, `Scopes` what a
+//! name and an expression stand for at a statement, `Rules` the seven rules, each as the list of the
+//! lines that break it, and `circuit_rule`, the least of these lines with its rule.
+#![tactic(auto)]
+
+mod examples;
+mod main_module;
+
+pub use examples::{
+    the_circuits_work_out, the_lines_work_out, the_shapes_work_out, the_statements_work_out,
+};
+pub use main_module::missing_main;
