@@ -1,5 +1,5 @@
 use super::*;
-use fir_read::{Circuit, Expr, Module, Port, Stmt};
+use fir_first::{Circuit, Expr, Module, Port, Stmt};
 use net_core::Signal;
 use sim_plain::{Design, build};
 use std::alloc::Global;

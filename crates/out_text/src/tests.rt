@@ -1,6 +1,6 @@
 use super::*;
 use bench_core::{Observation, Outcome, Run};
-use fir_read::{Circuit, Expr, Module, Port, Stmt};
+use fir_first::{Circuit, Expr, Module, Port, Stmt};
 use net_core::Signal;
 use sim_plain::{Design, build};
 use std::alloc::Global;

@@ -9,12 +9,22 @@ use tb_base::Memory;
 /// A form that is known and not taken.
 #[derive(Clone, Copy, Debug, PartialEq, Eq)]
 pub enum Form {
-    /// A memory, or one of its ports.
-    Memory,
-    /// A connection of another kind than the usual one.
-    Connect,
+    /// An annotation behind the head of a circuit.
+    Annotation,
+    /// A module that is described elsewhere.
+    ExternalModule,
+    /// A type that is known and not taken, or a `const` one.
+    Type,
+    /// An enumeration's type.
+    Enumeration,
     /// An operation that is known and not taken.
     Operation,
+    /// A connection of another kind than the usual one.
+    Connect,
+    /// A statement that is known and not taken.
+    Statement,
+    /// A memory, or one of its ports.
+    Memory,
     /// A name in back quotes.
     QuotedName,
 }

@@ -33,6 +33,8 @@ pub enum Symbol {
     CloseBracket,
     /// `{`
     OpenBrace,
+    /// `{|`, which begins the type of an enumeration.
+    OpenEnumeration,
     /// `}`
     CloseBrace,
     /// `:`
@@ -88,6 +90,8 @@ pub enum Token {
     Text(Name),
     /// An unsupported form begins here, wherever it stands.
     Unsupported(Form),
+    /// This opening bracket passes the limit of those that are open at once.
+    TooDeep(Symbol),
     /// A byte that begins no token.
     Other,
 }
@@ -150,6 +154,7 @@ impl Item {
     {
         match &self.token {
             Token::TooWide => Kind::NumberTooWide,
+            Token::TooDeep(_) => Kind::TooDeep,
             Token::Unsupported(form) => Kind::Unsupported(*form),
             _ => Kind::Syntax,
         }

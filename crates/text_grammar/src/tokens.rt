@@ -5,8 +5,8 @@
 //! of items that are left from it on. After a fault the cursor stands where reading stopped, and is of no more use. Each call
 //! takes constant time, but for those that compare or copy a word, which take time linear in that word.
 
-ghost use Rattle.std.specs.Prelude.{◌≡◌, ◌&&◌, length, drop, Option, Some, None, Err, ◌==◌};
-ghost use Rattle.text_grammar.specs.Part.{Reads, refusal, starts, flag};
+ghost use Rattle.std.specs.Prelude.{◌≡◌, ◌&&◌, length, drop, Option, Some, None, Err, ◌==◌, option_map, slice_get};
+ghost use Rattle.text_grammar.specs.Part.{Reads, refusal, starts, flag, item_now};
 ghost use Rattle.text_grammar.specs.Terminals as t;
 
 use crate::fault::{Kind, ReadError};
@@ -50,6 +50,16 @@ impl<'a> Tokens<'a> {
         ensures { result ≡ length self.now }
     {
         self.items.len()
+    }
+
+    /// The next item, or `None` at the end.
+    pub fn peek(&self) -> Option<&'a Item>
+        ensures { option_map item_now result ≡ slice_get self.now 0 }
+    {
+        match self.items {
+            [first, ..] => Some(first),
+            [] => None,
+        }
     }
 
     /// The line of the next item, or 0 at the end.
