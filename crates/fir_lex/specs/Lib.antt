@@ -1,0 +1,5 @@
+pub mod Pieces
+pub mod Lines
+pub mod Marks
+pub mod Lex
+pub mod Examples
