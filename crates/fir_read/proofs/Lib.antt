@@ -1,4 +1,11 @@
-mod Lexing
-mod RowReading
-mod RowLaws
-mod Spelled
+pub mod LineLaws
+pub mod WordLaws
+pub mod RowLaws
+pub mod Steps
+pub mod Readings
+pub mod LineReading
+pub mod CircuitFits
+pub mod Faults
+pub mod BodyReading
+pub mod Instances
+pub mod Texts

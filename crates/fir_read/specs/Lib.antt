@@ -1,5 +1,2 @@
-pub mod Lex
-pub mod Grammar
+pub mod Steps
 pub mod Circuits
-pub mod FirstForm
-pub mod Examples

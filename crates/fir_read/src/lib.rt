@@ -1,23 +1,18 @@
-//! The circuit text in the first form: its tree, its reading and its rules.
+//! Reading of circuit texts.
 //!
-//! A text is read in two steps. `lex` cuts it into items, line by line, and `rows` reads the items by the grammar. Both
-//! have definitions that the code does not share: `items_of` (`specs/Lex.antt`) and the parts of a grammar in
-//! `specs/Grammar.antt`, which say what spells a circuit and how it is found. `specs/Circuits.antt` joins them to
-//! `spells_circuit` and `circuit_of`, and `texts_spell_once` is the law that the two agree.
-//!
-//! The rules on names and widths, `first_form` (`specs/FirstForm.antt`), are over the tree and not judged by `read`.
+//! A text is cut into items (`fir_lex`), and the items are read by the grammar of circuits: expressions (`fir_expr`), rows of one line
+//! (`fir_rows`), and here blocks of statements by their columns (`blocks`), modules and the circuit (`modules`). The grammar is that of
+//! `fir_ast/specs/CircuitGrammar.antt`; `specs/Circuits.antt` says which circuit a text spells, and which place of a text is the first
+//! faulty one. `read` is the public call, and three laws tie the definitions to each other.
 #![tactic(auto)]
 
-mod examples;
+mod blocks;
 mod fault;
-mod lex;
+mod modules;
 mod reading;
-mod rows;
 #[cfg(test)]
 mod tests;
-mod tree;
+mod words;
 
-pub use examples::{the_forms_refused, the_forms_taken};
-pub use fault::FormFault;
-pub use reading::{read, texts_spell_once};
-pub use tree::{Circuit, Expr, Module, Port, Stmt};
+pub use fault::{ReadFault, What};
+pub use reading::{fault_where_none, fronts_go_on, read, texts_spell_once};

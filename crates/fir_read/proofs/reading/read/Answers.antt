@@ -1,5 +1,7 @@
-use Rattle.std.proofs.Common.{◌∙◌}
-use Rattle.fir_read.proofs.Spelled.{read_found, read_refused, found_spelled}
+use Rattle.std.proofs.Common.{◌∙◌, ap}
+use Rattle.tb_base.specs.declared.place.Place.{Place}
+use Rattle.fir_read.specs.Circuits.{fault_as}
+use Rattle.fir_read.proofs.Texts.{read_found, found_spelled, read_faulty, read_fault_found}
 use Rattle.fir_read.proofs.reading.read.Goals as goal
 
 pub returns-in-Ok-clause-found : goal.returns-in-Ok-clause-found
@@ -8,5 +10,8 @@ returns-in-Ok-clause-found c = read_found c.args.text.now c.new-tokens.result c.
 pub returns-in-Ok-clause-spelled : goal.returns-in-Ok-clause-spelled
 returns-in-Ok-clause-spelled c = found_spelled c.args.text.now c.in-Ok.circuit (read_found c.args.text.now c.new-tokens.result c.whole_circuit.new.tokens c.in-Ok.circuit (c.new-tokens.ensures ∙ c.deref.ensures.value ∙ c.in_ok-items.ensures) c.in-Ok.ensures)
 
-pub returns-clause-refused : goal.returns-clause-refused
-returns-clause-refused c = read_refused c.args.text.now c.new-tokens.result c.in-Err-At.field-0 c.in-Err-At.field-0-0 c.in-Err-At.field-0-1 (c.new-tokens.ensures ∙ c.deref.ensures.value ∙ c.in_ok-items.ensures) c.in-Err-At.field-0-is c.in-Err-At.ensures
+pub returns-clause-first : goal.returns-clause-first
+returns-clause-first c = read_faulty c.args.text.now c.new-tokens.result c.in-Err-At.field-0 c.in-Err-At.kind c.in-Err-At.left c.fault.result (c.new-tokens.ensures ∙ c.deref.ensures.value ∙ c.in_ok-items.ensures) c.in-Err-At.field-0-is c.in-Err-At.ensures (c.fault.ensures ∙ ap (λ (z : Place). fault_as c.in-Err-At.kind z) c.place_left.ensures)
+
+pub returns-clause-fault : goal.returns-clause-fault
+returns-clause-fault c = read_fault_found c.args.text.now c.new-tokens.result c.in-Err-At.field-0 c.in-Err-At.kind c.in-Err-At.left c.fault.result (c.new-tokens.ensures ∙ c.deref.ensures.value ∙ c.in_ok-items.ensures) c.in-Err-At.field-0-is c.in-Err-At.ensures (c.fault.ensures ∙ ap (λ (z : Place). fault_as c.in-Err-At.kind z) c.place_left.ensures)

@@ -1,4 +1,4 @@
-use Rattle.fir_read.proofs.Spelled.{spelled_found, found_spelled}
+use Rattle.fir_read.proofs.Texts.{spelled_found, found_spelled}
 use Rattle.fir_read.proofs.reading.texts_spell_once.Goals as goal
 
 pub returns : goal.returns

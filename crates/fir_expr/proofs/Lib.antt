@@ -1,0 +1,9 @@
+pub mod Judging
+pub mod Deeper
+pub mod Loops
+pub mod Growth
+pub mod Apart
+pub mod TypeLaws
+pub mod ExprParts
+pub mod Fronts
+pub mod ExprLaws

@@ -1,0 +1,3 @@
+pub mod FirstTree
+pub mod FirstForm
+pub mod Examples

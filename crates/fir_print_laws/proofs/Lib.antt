@@ -1,0 +1,12 @@
+pub mod Texts
+pub mod TypeTexts
+pub mod LineTexts
+pub mod Tokens
+pub mod LineItems
+pub mod LineMarks
+pub mod TextItems
+pub mod Phrases
+pub mod TreePhrases
+pub mod ExprPhrases
+pub mod LinePhrases
+pub mod Rows

@@ -1,7 +1,0 @@
-use Rattle.std.proofs.Common.{◌≡◌, ◌+◌, drop}
-use Rattle.std.specs.List.{position_or_len}
-use Rattle.fir_read.specs.Lex.{is_feed}
-use Rattle.fir_read.proofs.lex.line_len.Given as goal
-
-abbrev pub invariant-loop-at : goal.invariant-loop-at
-invariant-loop-at l = l.at + position_or_len is_feed (drop l.at l.bytes) ≡ position_or_len is_feed l.bytes
