@@ -1,20 +1,25 @@
 -- Worked examples: shapes of types, and circuits and statements that break rules, most of them one alone.
-use Rattle.std.specs.Prelude.{ℕ, ◌≡◌, false, true, Some, None, List, [], ◌∷◌, codes}
+use Rattle.std.specs.Prelude.{ℕ, ◌≡◌, false, true, Option, Some, None, List, [], ◌∷◌, codes}
 use Rattle.fir_ast.specs.declared.tree.Ty.{Ty}
 use Rattle.fir_ast.specs.declared.tree.Ty.TheVariants.{UInt, SInt, Clock, Reset, Bundle, Vector}
 use Rattle.fir_ast.specs.declared.tree.Ty.TheViews.{roll-Field}
 use Rattle.fir_ast.specs.declared.tree.Field.{Field}
 use Rattle.fir_ast.specs.declared.tree.Expr.{Expr}
 use Rattle.fir_ast.specs.declared.tree.Expr.TheVariants.{Ident, Lit}
+use Rattle.fir_ast.specs.declared.tree.Expr.TheOpen as level
+use Rattle.tb_base.specs.declared.op.Op.TheVariants.{Add, Not, Dshl, Mux}
+use Rattle.fir_ast.specs.declared.tree.VerifKind.TheVariants.{Printf, Assert}
 use Rattle.fir_ast.specs.declared.tree.Stmt.{Stmt}
 use Rattle.fir_ast.specs.declared.tree.Stmt.TheVariants.{Wire, Node, Inst, Connect, Invalid, When, Skip}
 use Rattle.fir_ast.specs.declared.tree.Stmt.TheOpen as at
 use Rattle.fir_ast.specs.declared.tree.Port.{Port}
 use Rattle.fir_ast.specs.declared.tree.Module.{Module}
 use Rattle.fir_ast.specs.declared.tree.Circuit.{Circuit}
-use Rattle.fir_check.specs.Scopes.{Known, Source, thing, fresh, hidden, free_known}
-use Rattle.fir_check.specs.Rules.{NoMain, DoubleName, UnknownName, WrongKind, ClockUse, double_name_lines, unknown_name_lines, instance_cycle_lines, wrong_kind_lines, wrong_flow_lines, clock_use_lines, unknown_at, wrong_at, flow_at, clock_at, circuit_rule}
-use Rattle.fir_check.specs.Types.{same_shape, has_flip, holds_clock, repeats_field}
+use Rattle.fir_check.specs.declared.thing.Flow.TheVariants.{Source}
+use Rattle.fir_check.specs.Scopes.{Known, Thing, thing, fresh, hidden, free_known}
+use Rattle.fir_check.specs.declared.best.Rule.TheVariants.{NoMain, DoubleName, UnknownName, WrongKind, ClockUse}
+use Rattle.fir_check.specs.Rules.{double_name_lines, unknown_name_lines, instance_cycle_lines, wrong_kind_lines, wrong_flow_lines, clock_use_lines, unknown_at, wrong_at, flow_at, clock_at, unknown_level, wrong_level, clock_level, fails, wrong_pair, wrong_verif, circuit_rule}
+use Rattle.fir_check.specs.Types.{is_clock, same_shape, has_flip, holds_clock, repeats_field}
 
 abbrev plain : List ℕ → Ty → Field
 plain name ty = roll-Field (record { flip = false; name = name; ty = ty })
@@ -132,3 +137,49 @@ pub record LineExamples : Type 0 where
   pub clock_missing : clock_use_lines (beside (Inst 6 (codes "q") (codes "N") ∷ []) []) ≡ 6 ∷ []
   -- on one line an unknown name is answered before a wrong flow
   pub unknown_first : circuit_rule (alone (Skip 5 ∷ Connect 6 a (Ident (codes "y")) ∷ [])) ≡ Some (UnknownName, 6)
+
+-- what stands for an operand: a UInt, an SInt, a Clock, and a bundle with a flip
+abbrev unsigned_one : Option Thing
+unsigned_one = Some (thing bit Source)
+
+abbrev signed_one : Option Thing
+signed_one = Some (thing (SInt None) Source)
+
+abbrev clock_one : Option Thing
+clock_one = Some (thing Clock Source)
+
+abbrev flip_one : Option Thing
+flip_one = Some (thing a_b Source)
+
+pub record OperandExamples : Type 0 where
+  pub mixed_signs : wrong_level here (level.Apply Add (unsigned_one ∷ signed_one ∷ []) []) ≡ true
+  pub one_sign : wrong_level here (level.Apply Add (signed_one ∷ signed_one ∷ []) []) ≡ false
+  pub one_unknown : wrong_level here (level.Apply Add (signed_one ∷ None ∷ []) []) ≡ false
+  pub clock_operand : wrong_level here (level.Apply Not (clock_one ∷ []) []) ≡ true
+  pub signed_amount : wrong_level here (level.Apply Dshl (unsigned_one ∷ signed_one ∷ []) []) ≡ true
+  pub signed_shifted : wrong_level here (level.Apply Dshl (signed_one ∷ unsigned_one ∷ []) []) ≡ false
+  pub other_branches : wrong_level here (level.Apply Mux (unsigned_one ∷ unsigned_one ∷ signed_one ∷ []) []) ≡ true
+  pub same_branches : wrong_level here (level.Apply Mux (unsigned_one ∷ signed_one ∷ signed_one ∷ []) []) ≡ false
+  pub signed_choice : wrong_level here (level.Apply Mux (signed_one ∷ unsigned_one ∷ unsigned_one ∷ []) []) ≡ true
+  pub flipped_branches : wrong_level here (level.Apply Mux (unsigned_one ∷ flip_one ∷ flip_one ∷ []) []) ≡ true
+  pub clock_branches : clock_level here (level.Apply Mux (unsigned_one ∷ clock_one ∷ clock_one ∷ []) []) ≡ true
+  pub clock_choice : clock_level here (level.Apply Mux (clock_one ∷ unsigned_one ∷ unsigned_one ∷ []) []) ≡ false
+  pub index_within : wrong_level here (level.At (Some (thing (Vector bit 3) Source)) 2) ≡ false
+  pub index_past : wrong_level here (level.At (Some (thing (Vector bit 3) Source)) 3) ≡ true
+  pub field_of_none : wrong_level here (level.Part unsigned_one (codes "f")) ≡ true
+  pub field_missing : unknown_level here (level.Part flip_one (codes "f")) ≡ true
+  pub field_there : unknown_level here (level.Part flip_one (codes "b")) ≡ false
+  pub reset_index : wrong_level here (level.Index (Some (thing (Vector bit 3) Source)) (Some (thing Reset Source))) ≡ true
+
+pub record RegisterExamples : Type 0 where
+  -- a register's clock is a Clock
+  pub unsigned_clock : fails (λ t. is_clock t.ty) unsigned_one ≡ true
+  pub clock_kept : fails (λ t. is_clock t.ty) clock_one ≡ false
+  -- a reset's signal, then its initial value
+  pub signed_reset : wrong_pair bit signed_one unsigned_one ≡ true
+  pub other_init : wrong_pair bit unsigned_one signed_one ≡ true
+  pub reset_kept : wrong_pair bit (Some (thing Reset Source)) unsigned_one ≡ false
+  -- what is printed may be signed, a condition may not
+  pub printed : wrong_verif Printf (clock_one ∷ unsigned_one ∷ signed_one ∷ []) ≡ false
+  pub signed_enable : wrong_verif Assert (clock_one ∷ unsigned_one ∷ signed_one ∷ []) ≡ true
+  pub bundle_printed : wrong_verif Printf (clock_one ∷ unsigned_one ∷ flip_one ∷ []) ≡ true

@@ -1,5 +1,16 @@
 pub mod Names
 pub mod Types
+pub mod Fields
 pub mod Scopes
+pub mod Seen
+pub mod KnownSeen
+pub mod Judging
 pub mod Rules
+pub mod Driven
+pub mod Places
+pub mod Ports
+pub mod Walking
+pub mod Faults
+pub mod Tables
+pub mod Instances
 pub mod Examples

@@ -18,6 +18,8 @@ use Rattle.fir_ast.specs.declared.tree.Port.{Port}
 use Rattle.fir_ast.specs.declared.tree.Module.{Module}
 use Rattle.fir_ast.specs.declared.tree.Circuit.{Circuit}
 use Rattle.fir_ast.specs.Printed.{operands_before}
+use Rattle.fir_check.specs.declared.best.Rule.{Rule}
+use Rattle.fir_check.specs.declared.best.Rule.TheVariants.{NoMain, DoubleName, UnknownName, WrongKind, WrongFlow, ClockUse, InstanceCycle}
 use Rattle.fir_check.specs.Names.{seconds, firsts}
 use Rattle.fir_check.specs.Types.{is_ground, is_clock, is_uint, is_unsigned, is_bundle, field_named, vector_of, repeats_field, has_flip, holds_clock, same, leaves, same_shape}
 use Rattle.fir_check.specs.Scopes.{turned, may_be_driven, Thing, Known, is_declared, visible, added, free_known, LevelRule, operand, is_signed_thing, somewhere, meaning_of, module_name, port_name, module_named, Walk, StmtRule, body_lines}
@@ -102,10 +104,15 @@ uses modules known _ = []
 abbrev pub in_some_use : List Module → LevelRule → StmtRule
 in_some_use modules rule known s = list_any (λ u. somewhere rule u.known u.expr) (uses modules known s)
 
+-- a bundle has no such field
+abbrev pub lacks_field : List ℕ → Option Thing → Bool
+lacks_field name None = false
+lacks_field name (Some t) = is_bundle t.ty && is_none (field_named name t.ty)
+
 -- a name isn't declared earlier in the same or an enclosing block, or a bundle has no such field
 abbrev pub unknown_level : LevelRule
 unknown_level known (Ident name) = is_none (visible name known)
-unknown_level known (Part (Some t) name) = is_bundle t.ty && is_none (field_named name t.ty)
+unknown_level known (Part e name) = lacks_field name e
 unknown_level known _ = false
 
 -- an instance's module isn't there
@@ -161,19 +168,25 @@ wrong_operands op args = list_any (fails is_operand) args || signs_differ op arg
 abbrev pub has_element : ℕ → Thing → Bool
 has_element n t = some_is (λ v. nat_lt n v.1) (vector_of t.ty)
 
+-- an index of no vector, or a dynamic index that is no UInt
+abbrev pub wrong_index : Option Thing → Option Thing → Bool
+wrong_index e index = fails (λ t. is_some (vector_of t.ty)) e || fails (λ t. is_uint t.ty) index
+
 -- a field of no bundle, an index of no vector or past its length, a dynamic index that is no UInt, or a wrong operand
 abbrev pub wrong_level : LevelRule
 wrong_level known (Part e name) = fails (λ t. is_bundle t.ty) e
 wrong_level known (At e n) = fails (has_element n) e
-wrong_level known (Index e index) = fails (λ t. is_some (vector_of t.ty)) e || fails (λ t. is_uint t.ty) index
+wrong_level known (Index e index) = wrong_index e index
 wrong_level known (Apply op args nums) = wrong_operands op args
 wrong_level known _ = false
 
 -- the signal of a reset is a condition, its initial value has the register's shape
+abbrev pub wrong_pair : Ty → Option Thing → Option Thing → Bool
+wrong_pair t signal init = fails is_condition signal || fails (λ i. is_value i && same_shape i.ty t) init
+
 abbrev pub wrong_reset : List Known → Ty → Option ResetPair → Bool
 wrong_reset known t None = false
-wrong_reset known t (Some r) =
-    fails is_condition (meaning_of known r.signal) || fails (λ i. is_value i && same_shape i.ty t) (meaning_of known r.init)
+wrong_reset known t (Some r) = wrong_pair t (meaning_of known r.signal) (meaning_of known r.init)
 
 -- the operands between a verification statement's clock and its string are conditions, those behind it ground
 abbrev pub wrong_verif : VerifKind → List (Option Thing) → Bool
@@ -325,19 +338,13 @@ cycle_at modules m known (Inst _ _ target) = contains (length modules) modules t
 cycle_at modules m known _ = false
 
 -- a module whose name an earlier one has is contained in none
+abbrev pub cycle_lines : List Module → List ℕ
+cycle_lines modules = flat_map (λ m. body_lines modules (cycle_at modules m) m) (firsts module_name modules)
+
 abbrev pub instance_cycle_lines : Circuit → List ℕ
-instance_cycle_lines c = flat_map (λ m. body_lines c.modules (cycle_at c.modules m) m) (firsts module_name c.modules)
+instance_cycle_lines c = cycle_lines c.modules
 
 -- all rules
-
-pub data Rule : Type 0 where
-  NoMain : Rule
-  DoubleName : Rule
-  UnknownName : Rule
-  WrongKind : Rule
-  WrongFlow : Rule
-  ClockUse : Rule
-  InstanceCycle : Rule
 
 -- the lines that break a rule
 abbrev pub broken_lines : Rule → Circuit → List ℕ

@@ -10,6 +10,7 @@ use Rattle.tb_base.specs.declared.op.Op.TheVariants.{Mux}
 use Rattle.fir_ast.specs.declared.tree.Ty.{Ty}
 use Rattle.fir_ast.specs.declared.tree.Ty.TheVariants as ty
 use Rattle.fir_ast.specs.declared.tree.Ty.TheViews.{roll-Field}
+use Rattle.fir_ast.specs.declared.tree.Field.{Field}
 use Rattle.fir_ast.specs.declared.tree.Expr.{Expr}
 use Rattle.fir_ast.specs.declared.tree.Expr.TheFolds.{fold-Expr}
 use Rattle.fir_ast.specs.declared.tree.Expr.TheOpen.{Expr-F, Ident, Part, At, Index, Lit, Apply}
@@ -18,16 +19,13 @@ use Rattle.fir_ast.specs.declared.tree.Stmt.TheFolds.{fold-Stmt}
 use Rattle.fir_ast.specs.declared.tree.Stmt.TheOpen.{Stmt-F, Wire, Node, Reg, Inst, Connect, Invalid, When, Skip, Verif}
 use Rattle.fir_ast.specs.declared.tree.Port.{Port}
 use Rattle.fir_ast.specs.declared.tree.Module.{Module}
+use Rattle.fir_check.specs.declared.thing.Flow.{Flow}
+use Rattle.fir_check.specs.declared.thing.Flow.TheVariants.{Free, Sink, Source, Fixed}
 use Rattle.fir_check.specs.Names.{is_among, kept, firsts}
 use Rattle.fir_check.specs.Types.{is_signed, field_named, vector_of}
 
--- how a part may be driven: `Free` is a wire or register, `Sink` an output port or an instance's input, `Source` an input port or
--- an instance's output, `Fixed` a node, a literal or an operation
-pub data Flow : Type 0 where
-  Free : Flow
-  Sink : Flow
-  Source : Flow
-  Fixed : Flow
+-- flows: `Free` is a wire or register, `Sink` an output port or an instance's input, `Source` an input port or an instance's output,
+-- `Fixed` a node, a literal or an operation
 
 -- the flow of a flipped part
 abbrev pub turned : Flow → Flow
@@ -170,9 +168,13 @@ port_name p = p.name
 abbrev pub module_named : List ℕ → List Module → Option Module
 module_named name modules = find (λ m. bytes_eq m.name name) modules
 
+-- a port as a field of an instance, an input flipped
+abbrev pub port_field : Port → Field
+port_field p = roll-Field (record { flip = not p.output; name = p.name; ty = p.ty })
+
 -- an instance is a bundle of its module's ports, the inputs flipped
 abbrev pub ports_type : Module → Ty
-ports_type m = ty.Bundle (map (λ p. roll-Field (record { flip = not p.output; name = p.name; ty = p.ty })) m.ports)
+ports_type m = ty.Bundle (map port_field m.ports)
 
 abbrev pub instance_thing : Module → Thing
 instance_thing m = record { ty = ports_type m; flow = Source; whole = true }

@@ -5,10 +5,33 @@
 //! lines that break it, and `circuit_rule`, the least of these lines with its rule.
 #![tactic(auto)]
 
+mod accept;
+mod best;
+mod broken;
+mod cycles;
 mod examples;
+mod exprs;
+mod heights;
+mod instance_types;
+mod instances;
+mod judged;
 mod main_module;
+mod name_table;
+mod numbers;
+mod ports;
+mod scope;
+mod sinks;
+mod statements;
+mod surroundings;
+mod thing;
+mod types;
+mod walk;
+mod ways;
 
+pub use accept::{CheckFault, Checked, check};
+pub use best::{Best, Break, Rule, least_place_decides};
 pub use examples::{
-    the_circuits_work_out, the_lines_work_out, the_shapes_work_out, the_statements_work_out,
+    the_circuits_work_out, the_lines_work_out, the_operands_work_out, the_registers_work_out,
+    the_shapes_work_out, the_statements_work_out,
 };
 pub use main_module::missing_main;

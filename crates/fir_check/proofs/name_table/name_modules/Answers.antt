@@ -1,0 +1,16 @@
+use Rattle.std.proofs.Common.{arith, rules}
+use Rattle.fir_check.proofs.Doubles.{modules_start, modules_next, modules_end}
+use Rattle.fir_check.proofs.name_table.name_modules.Goals as goal
+
+pub loop-k-init : goal.loop-k-init
+loop-k-init c = modules_start _ _ _ c.new-table.ensures
+
+pub loop-k-preserved : goal.loop-k-preserved
+loop-k-preserved c =
+    modules_next _ c.loop-k.k c.index-modules-k.result c.loop-k.table c.add.new.self c.loop-k.best c.note_if.new.self _ c.in_ok-is_new.is_new
+    c.loop-k-test.true c.index-modules-k.is (search rules) (search rules) c.note_if.ensures c.loop-k.invariant
+
+pub returns : goal.returns
+returns c =
+    let e = modules_end _ c.loop-k.k c.loop-k.table c.loop-k.best _ (omega arith) c.loop-k.invariant in
+    record { table = e.0; best = e.1 }

@@ -1,0 +1,17 @@
+use Rattle.std.proofs.Common.{◌≡◌, ◌-◌, length, []}
+use Rattle.std.specs.List.{list_all}
+use Rattle.fir_check.specs.Fields.{field_name, first_fields, has_match}
+use Rattle.fir_check.proofs.Firsts.{from}
+use Rattle.fir_check.proofs.types.+same_shape.Given as goal
+
+abbrev pub invariant-same_by_name-loop-k : goal.invariant-same_by_name-loop-k
+invariant-same_by_name-loop-k l = list_all (has_match l.others) (from field_name [] l.fields l.k) ≡ list_all (has_match l.others) (first_fields l.fields)
+
+abbrev pub decreases-same_by_name-loop-k : goal.decreases-same_by_name-loop-k
+decreases-same_by_name-loop-k l = length l.fields - l.k
+
+abbrev pub invariant-same_in_order-loop-k : goal.invariant-same_in_order-loop-k
+invariant-same_in_order-loop-k l = list_all (has_match l.others) (from field_name [] l.fields l.k) ≡ list_all (has_match l.others) (first_fields l.fields)
+
+abbrev pub decreases-same_in_order-loop-k : goal.decreases-same_in_order-loop-k
+decreases-same_in_order-loop-k l = length l.fields - l.k

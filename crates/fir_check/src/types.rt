@@ -1,0 +1,395 @@
+//! Types as the rules see them.
+//!
+//! A field whose name an earlier field of its bundle has is passed over: the name means the first.
+//! Every function here goes along the nesting of the type, and takes no memory but where it says so.
+ghost use Rattle.std.specs.Prelude.{◌≡◌, ◌&&◌, true, not, option_map, map, IfOk};
+ghost use Rattle.std.specs.List.{list_any};
+ghost use Rattle.fir_check.specs.Names.{is_among};
+ghost use Rattle.fir_check.specs.Types.{is_ground, is_clock, is_signed, is_uint, is_unsigned, is_bundle, field_named, vector_of, repeats_field, has_flip, holds_clock, same_shape, leaves};
+ghost use Rattle.fir_check.specs.Rules.{has_unsized_input};
+ghost use Rattle.fir_check.specs.Fields.{lent_slot, lent_pair, field_name, field_type, named_slot, first_fields, repeats_name, flips, is_wanted, has_wanted, have_matches, have_names, has_match, matches};
+
+use fir_ast::{Field, Port, Ty};
+use indexmap::IndexSet;
+use std::alloc::Global;
+use tb_base::Memory;
+
+/// Whether it is a type of one value.
+pub fn is_ground(ty: &Ty) -> bool
+    ensures { result ≡ is_ground ty.now }
+{
+    matches!(ty, Ty::UInt(_) | Ty::SInt(_) | Ty::Clock | Ty::Reset)
+}
+
+/// Whether it is the type Clock.
+pub fn is_clock(ty: &Ty) -> bool
+    ensures { result ≡ is_clock ty.now }
+{
+    matches!(ty, Ty::Clock)
+}
+
+/// Whether it is an SInt of any width.
+pub fn is_signed(ty: &Ty) -> bool
+    ensures { result ≡ is_signed ty.now }
+{
+    matches!(ty, Ty::SInt(_))
+}
+
+/// Whether it is a UInt of any width.
+pub fn is_uint(ty: &Ty) -> bool
+    ensures { result ≡ is_uint ty.now }
+{
+    matches!(ty, Ty::UInt(_))
+}
+
+/// Whether it is a UInt of any width or a Reset, which is a UInt of one bit.
+pub fn is_unsigned(ty: &Ty) -> bool
+    ensures { result ≡ is_unsigned ty.now }
+{
+    matches!(ty, Ty::UInt(_) | Ty::Reset)
+}
+
+pub fn is_bundle(ty: &Ty) -> bool
+    ensures { result ≡ is_bundle ty.now }
+{
+    matches!(ty, Ty::Bundle(_))
+}
+
+/// A vector's element and length.
+pub fn vector_of(ty: &Ty) -> Option<(&Ty, u32)>
+    ensures { option_map lent_pair result ≡ vector_of ty.now }
+{
+    match ty {
+        Ty::Vector(of, len) => Some((of.get(), *len)),
+        _ => None,
+    }
+}
+
+/// The field of a name, `None` also where the type is no bundle. The time is linear in the number of
+/// fields.
+pub fn field_named<'a>(name: &[u8], ty: &'a Ty) -> Option<&'a Field>
+    ensures { option_map lent_slot result ≡ field_named name.now ty.now }
+{
+    match ty {
+        Ty::Bundle(fields) => first_named(name, fields.as_slice()),
+        _ => None,
+    }
+}
+
+fn first_named<'a>(name: &[u8], fields: &'a [Field]) -> Option<&'a Field>
+    ensures { option_map lent_slot result ≡ named_slot name.now fields.now }
+{
+    let mut k = 0;
+    while k < fields.len() {
+        let field = &fields[k];
+        if field.name.bytes() == name {
+            return Some(field);
+        }
+        k += 1;
+    }
+    None
+}
+
+/// Whether none of these fields has the name. The time is linear in their number.
+fn is_new(name: &[u8], earlier: &[Field]) -> bool
+    ensures { result ≡ not (is_among name.now (map field_name earlier.now)) }
+{
+    let mut k = 0;
+    while k < earlier.len() {
+        if earlier[k].name.bytes() == name {
+            return false;
+        }
+        k += 1;
+    }
+    true
+}
+
+/// Whether it is so of a field of this name and of none of these earlier ones. The earlier ones are
+/// looked at only if it is so.
+fn counts(is_so: bool, name: &[u8], earlier: &[Field]) -> bool
+    ensures { result ≡ is_so && not (is_among name.now (map field_name earlier.now)) }
+{
+    is_so && is_new(name, earlier)
+}
+
+/// Whether a bundle in the type has two fields of one name. Takes time and memory linear in the size
+/// of the type.
+#[cycle(repeats_field)]
+pub fn repeats_field(alloc: Global, ty: &Ty) -> Result<bool, Memory>
+    ensures { IfOk result (λ b. b ≡ repeats_field ty.now) }
+{
+    match ty {
+        Ty::Bundle(fields) => {
+            let is_here = repeats_name(alloc, fields.as_slice())?;
+            let is_inside = repeats_inside(alloc, fields.as_slice())?;
+            Ok(is_here | is_inside)
+        }
+        Ty::Vector(of, _) => repeats_field(alloc, of.get()),
+        _ => Ok(false),
+    }
+}
+
+fn repeats_name(alloc: Global, fields: &[Field]) -> Result<bool, Memory>
+    ensures { IfOk result (λ b. b ≡ repeats_name fields.now) }
+{
+    let mut names = IndexSet::new(alloc);
+    let mut k = 0;
+    while k < fields.len() {
+        let field = &fields[k];
+        let name = Vec::from_slice(alloc, field.name.bytes())?;
+        let is_new = names.insert(name)?;
+        if !is_new {
+            return Ok(true);
+        }
+        k += 1;
+    }
+    Ok(false)
+}
+
+#[cycle(repeats_field)]
+fn repeats_inside(alloc: Global, fields: &[Field]) -> Result<bool, Memory>
+    ensures { IfOk result (λ b. b ≡ list_any (λ f. repeats_field (field_type f)) fields.now) }
+{
+    let mut k = 0;
+    while k < fields.len() {
+        if repeats_field(alloc, &fields[k].ty)? {
+            return Ok(true);
+        }
+        k += 1;
+    }
+    Ok(false)
+}
+
+/// Whether a field in the type is flipped. The time is linear in the size of a type that repeats no
+/// field.
+#[cycle(has_flip)]
+pub fn has_flip(ty: &Ty) -> bool
+    ensures { result ≡ has_flip ty.now }
+{
+    match ty {
+        Ty::Bundle(fields) => flips_inside(fields.as_slice()),
+        Ty::Vector(of, _) => has_flip(of.get()),
+        _ => false,
+    }
+}
+
+/// Whether the field is flipped or has a flip in it.
+#[cycle(has_flip)]
+fn flips(field: &Field) -> bool
+    ensures { result ≡ flips field.now }
+{
+    field.flip || has_flip(&field.ty)
+}
+
+#[cycle(has_flip)]
+fn flips_inside(fields: &[Field]) -> bool
+    ensures { result ≡ list_any flips (first_fields fields.now) }
+{
+    let mut k = 0;
+    while k < fields.len() {
+        let field = &fields[k];
+        if counts(flips(field), field.name.bytes(), &fields[..k]) {
+            return true;
+        }
+        k += 1;
+    }
+    false
+}
+
+/// Whether the type is a Clock or has one in it. The time is linear in the size of a type that
+/// repeats no field.
+#[cycle(holds_clock)]
+pub fn holds_clock(ty: &Ty) -> bool
+    ensures { result ≡ holds_clock ty.now }
+{
+    match ty {
+        Ty::Clock => true,
+        Ty::Bundle(fields) => clocks_inside(fields.as_slice()),
+        Ty::Vector(of, _) => holds_clock(of.get()),
+        _ => false,
+    }
+}
+
+#[cycle(holds_clock)]
+fn clocks_inside(fields: &[Field]) -> bool
+    ensures { result ≡ list_any (λ f. holds_clock (field_type f)) (first_fields fields.now) }
+{
+    let mut k = 0;
+    while k < fields.len() {
+        let field = &fields[k];
+        if counts(holds_clock(&field.ty), field.name.bytes(), &fields[..k]) {
+            return true;
+        }
+        k += 1;
+    }
+    false
+}
+
+/// Whether a ground part of the type goes against it, or with it where `turned`, flips counted; if
+/// `unsized_only`, one that is a UInt or SInt without width. The time is linear in the size of a type
+/// that repeats no field.
+#[cycle(has_leaf)]
+fn has_leaf(ty: &Ty, turned: bool, unsized_only: bool) -> bool
+    ensures { result ≡ list_any (is_wanted turned unsized_only) (leaves ty.now) }
+{
+    match ty {
+        Ty::UInt(width) => turned && (!unsized_only || width.is_none()),
+        Ty::SInt(width) => turned && (!unsized_only || width.is_none()),
+        Ty::Clock => turned && !unsized_only,
+        Ty::Reset => turned && !unsized_only,
+        Ty::Bundle(fields) => has_leaf_inside(fields.as_slice(), turned, unsized_only),
+        Ty::Vector(of, len) => *len != 0 && has_leaf(of.get(), turned, unsized_only),
+    }
+}
+
+#[cycle(has_leaf)]
+fn has_leaf_inside(fields: &[Field], turned: bool, unsized_only: bool) -> bool
+    ensures { result ≡ list_any (has_wanted turned unsized_only) (first_fields fields.now) }
+{
+    let mut k = 0;
+    while k < fields.len() {
+        let field = &fields[k];
+        let is_here = has_leaf(&field.ty, turned != field.flip, unsized_only);
+        if counts(is_here, field.name.bytes(), &fields[..k]) {
+            return true;
+        }
+        k += 1;
+    }
+    false
+}
+
+/// Whether a ground part of the type goes against it, flips counted. The time is linear in the size
+/// of a type that repeats no field.
+pub fn has_against_leaf(ty: &Ty) -> bool
+    ensures { result ≡ list_any (λ l. l.against) (leaves ty.now) }
+{
+    has_leaf(ty, false, false)
+}
+
+/// Whether a ground part of the port is an input, flips counted, and is a UInt or SInt without width.
+/// The time is linear in the size of a type that repeats no field.
+pub fn has_unsized_input(port: &Port) -> bool
+    ensures { result ≡ has_unsized_input port.now }
+{
+    has_leaf(&port.ty, !port.output, true)
+}
+
+/// Whether two types have one shape. The time is linear in the size of the types where bundles have
+/// their fields in the same order, and repeat none. Where the order is another, each field is looked
+/// for among all of the other bundle.
+#[cycle(same_shape)]
+pub fn same_shape(ty: &Ty, other: &Ty) -> bool
+    ensures { result ≡ same_shape ty.now other.now }
+{
+    match ty {
+        Ty::UInt(_) => is_unsigned(other),
+        Ty::Reset => is_unsigned(other),
+        Ty::SInt(_) => is_signed(other),
+        Ty::Clock => is_clock(other),
+        Ty::Bundle(fields) => match other {
+            Ty::Bundle(others) => same_bundle(fields.as_slice(), others.as_slice()),
+            _ => false,
+        },
+        Ty::Vector(of, len) => match other {
+            Ty::Vector(other_of, other_len) => {
+                *len == *other_len && same_shape(of.get(), other_of.get())
+            }
+            _ => false,
+        },
+    }
+}
+
+#[cycle(same_shape)]
+fn same_bundle(fields: &[Field], others: &[Field]) -> bool
+    ensures { result ≡ have_matches fields.now others.now && have_names others.now fields.now }
+{
+    if in_one_order(fields, others) {
+        return same_in_order(fields, others);
+    }
+    same_by_name(fields, others) && names_of_all(fields, others)
+}
+
+/// Whether the bundles have the same names in the same order.
+fn in_one_order(fields: &[Field], others: &[Field]) -> bool
+    ensures { result ≡ true → map field_name fields.now ≡ map field_name others.now }
+{
+    if fields.len() != others.len() {
+        return false;
+    }
+    let mut k = 0;
+    while k < fields.len() {
+        if fields[k].name.bytes() != others[k].name.bytes() {
+            return false;
+        }
+        k += 1;
+    }
+    true
+}
+
+/// Whether each of the bundle's names is one of the fields'.
+fn names_of_all(fields: &[Field], others: &[Field]) -> bool
+    ensures { result ≡ have_names others.now fields.now }
+{
+    let mut k = 0;
+    while k < others.len() {
+        let other = &others[k];
+        if first_named(other.name.bytes(), fields).is_none() {
+            return false;
+        }
+        k += 1;
+    }
+    true
+}
+
+/// Whether each field matches that at its place.
+#[cycle(same_shape)]
+fn same_in_order(fields: &[Field], others: &[Field]) -> bool
+    requires { map field_name fields.now ≡ map field_name others.now }
+    ensures { result ≡ have_matches fields.now others.now }
+{
+    let mut k = 0;
+    while k < fields.len() {
+        let field = &fields[k];
+        let differs = !same_field(field, &others[k]);
+        if counts(differs, field.name.bytes(), &fields[..k]) {
+            return false;
+        }
+        k += 1;
+    }
+    true
+}
+
+/// Whether each field matches that of its name.
+#[cycle(same_shape)]
+fn same_by_name(fields: &[Field], others: &[Field]) -> bool
+    ensures { result ≡ have_matches fields.now others.now }
+{
+    let mut k = 0;
+    while k < fields.len() {
+        let field = &fields[k];
+        let differs = !has_match(field, others);
+        if counts(differs, field.name.bytes(), &fields[..k]) {
+            return false;
+        }
+        k += 1;
+    }
+    true
+}
+
+#[cycle(same_shape)]
+fn has_match(field: &Field, others: &[Field]) -> bool
+    ensures { result ≡ has_match others.now field.now }
+{
+    match first_named(field.name.bytes(), others) {
+        None => false,
+        Some(other) => same_field(field, other),
+    }
+}
+
+/// Whether both fields are flipped or neither is, and their types have one shape.
+#[cycle(same_shape)]
+fn same_field(field: &Field, other: &Field) -> bool
+    ensures { result ≡ matches field.now other.now }
+{
+    field.flip == other.flip && same_shape(&field.ty, &other.ty)
+}
