@@ -1,2 +1,17 @@
+pub mod Body
+pub mod Depends
+pub mod Engines
 pub mod Entries
+pub mod Evaluation
+pub mod Examples
+pub mod Formed
+pub mod Last
+pub mod Nets
 pub mod Ports
+pub mod Rules
+pub mod Settled
+pub mod Shapes
+pub mod Signals
+pub mod Values
+pub mod WidthRules
+pub mod Widths

@@ -5,12 +5,12 @@ use Rattle.std.specs.Option.{option_map_or}
 use Rattle.std.specs.List.{list_all}
 use Rattle.std.proofs.lemmas.Bool.{and_parts, leb-true}
 use Rattle.net_core.specs.declared.ports.PortInfo.{PortInfo}
-use Rattle.fir_read.specs.declared.tree.Circuit.{Circuit}
-use Rattle.fir_read.specs.declared.tree.Module.{Module}
-use Rattle.fir_read.specs.declared.tree.Port.{Port}
-use Rattle.fir_read.specs.declared.tree.Stmt.{Stmt}
-use Rattle.fir_read.specs.declared.tree.Expr.{Expr}
-use Rattle.fir_read.specs.FirstForm.{are_distinct, has_one_name, has_distinct_ports, has_few_ports, has_narrow_ports, reads_inputs, drives_outputs, drives_each_once, has_narrow_sums, first_form}
+use Rattle.fir_first.specs.declared.tree.Circuit.{Circuit}
+use Rattle.fir_first.specs.declared.tree.Module.{Module}
+use Rattle.fir_first.specs.declared.tree.Port.{Port}
+use Rattle.fir_first.specs.declared.tree.Stmt.{Stmt}
+use Rattle.fir_first.specs.declared.tree.Expr.{Expr}
+use Rattle.fir_first.specs.FirstForm.{are_distinct, has_one_name, has_distinct_ports, has_few_ports, has_narrow_ports, reads_inputs, drives_outputs, drives_each_once, has_narrow_sums, first_form}
 use Rattle.sim_plain.specs.declared.equation.Equation.{Equation}
 use Rattle.sim_plain.specs.declared.equation.Equation.TheVariants.{Input}
 use Rattle.sim_plain.specs.Settled.{DesignValue}

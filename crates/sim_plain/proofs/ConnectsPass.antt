@@ -9,11 +9,11 @@ use Rattle.std.proofs.lemmas.Bool.{and_parts, not-true}
 use Rattle.std.proofs.lemmas.Bool.Decides.{nat_tests}
 use Rattle.net_core.specs.declared.ports.PortInfo.{PortInfo}
 use Rattle.net_core.specs.Ports.{port_named}
-use Rattle.fir_read.specs.declared.tree.Port.{Port}
-use Rattle.fir_read.specs.declared.tree.Stmt.{Stmt}
-use Rattle.fir_read.specs.declared.tree.Expr.{Expr}
-use Rattle.fir_read.specs.declared.tree.Expr.TheVariants as word
-use Rattle.fir_read.specs.FirstForm.{are_distinct, sink_of, source_of, words, port_of, is_input, is_output, is_narrow}
+use Rattle.fir_first.specs.declared.tree.Port.{Port}
+use Rattle.fir_first.specs.declared.tree.Stmt.{Stmt}
+use Rattle.fir_first.specs.declared.tree.Expr.{Expr}
+use Rattle.fir_first.specs.declared.tree.Expr.TheVariants as word
+use Rattle.fir_first.specs.FirstForm.{are_distinct, sink_of, source_of, words, port_of, is_input, is_output, is_narrow}
 use Rattle.sim_plain.specs.declared.equation.Equation.{Equation}
 use Rattle.sim_plain.specs.declared.equation.Equation.TheVariants.{Input, Copy, Add}
 use Rattle.sim_plain.specs.DesignOf.{port_info, table_from, equation_of, driver}

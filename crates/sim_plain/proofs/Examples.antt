@@ -2,12 +2,12 @@
 use Rattle.std.proofs.Common.{◌≡◌, ℕ, true, false, List, [], ◌∷◌, Some, None, refl}
 use Rattle.std.specs.Prelude.{codes}
 use Rattle.tb_base.specs.Word.{Word}
-use Rattle.fir_read.specs.declared.tree.Circuit.{Circuit}
-use Rattle.fir_read.specs.declared.tree.Port.{Port}
-use Rattle.fir_read.specs.declared.tree.Stmt.{Stmt}
-use Rattle.fir_read.specs.declared.tree.Stmt.TheVariants.{Connect}
-use Rattle.fir_read.specs.declared.tree.Expr.TheVariants as word
-use Rattle.fir_read.specs.FirstForm.{first_form}
+use Rattle.fir_first.specs.declared.tree.Circuit.{Circuit}
+use Rattle.fir_first.specs.declared.tree.Port.{Port}
+use Rattle.fir_first.specs.declared.tree.Stmt.{Stmt}
+use Rattle.fir_first.specs.declared.tree.Stmt.TheVariants.{Connect}
+use Rattle.fir_first.specs.declared.tree.Expr.TheVariants as word
+use Rattle.fir_first.specs.FirstForm.{first_form}
 use Rattle.sim_plain.specs.declared.equation.Equation.TheVariants.{Input, Copy, Add}
 use Rattle.sim_plain.specs.Settled.{DesignValue, settled_in, settled}
 use Rattle.sim_plain.specs.DesignOf.{design_of}

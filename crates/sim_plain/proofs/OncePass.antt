@@ -7,9 +7,9 @@ use Rattle.std.specs.Str.{bytes_eq}
 use Rattle.std.proofs.lemmas.Bool.{and_parts, and_from, eqb-true, eq-eqb}
 use Rattle.std.proofs.lemmas.List.Sums.{sum_by-cons, sum_by-append}
 use Rattle.std.proofs.lemmas.Bool.Decides.{nat_tests}
-use Rattle.fir_read.specs.declared.tree.Port.{Port}
-use Rattle.fir_read.specs.declared.tree.Stmt.{Stmt}
-use Rattle.fir_read.specs.FirstForm.{sink_of, source_of, words, port_of, is_input, is_output, is_narrow}
+use Rattle.fir_first.specs.declared.tree.Port.{Port}
+use Rattle.fir_first.specs.declared.tree.Stmt.{Stmt}
+use Rattle.fir_first.specs.FirstForm.{sink_of, source_of, words, port_of, is_input, is_output, is_narrow}
 use Rattle.sim_plain.specs.DesignOf.{driver}
 use Rattle.sim_plain.proofs.BoolFacts.{equal_names, name_same, list_all_and, list_all_same, same_test}
 use Rattle.sim_plain.proofs.ConnectsPass.{is_okay, is_new, connects_fit, reads_well}

@@ -5,12 +5,12 @@ use Rattle.std.specs.Str.{bytes_eq}
 use Rattle.net_core.specs.declared.ports.PortInfo.{PortInfo}
 use Rattle.net_core.specs.declared.ports.Signal.{Signal}
 use Rattle.net_core.specs.Ports.{port_named}
-use Rattle.fir_read.specs.declared.tree.Circuit.{Circuit}
-use Rattle.fir_read.specs.declared.tree.Port.{Port}
-use Rattle.fir_read.specs.declared.tree.Stmt.{Stmt}
-use Rattle.fir_read.specs.declared.tree.Expr.{Expr}
-use Rattle.fir_read.specs.declared.tree.Expr.TheVariants as word
-use Rattle.fir_read.specs.FirstForm.{first_form, sink_of, source_of}
+use Rattle.fir_first.specs.declared.tree.Circuit.{Circuit}
+use Rattle.fir_first.specs.declared.tree.Port.{Port}
+use Rattle.fir_first.specs.declared.tree.Stmt.{Stmt}
+use Rattle.fir_first.specs.declared.tree.Expr.{Expr}
+use Rattle.fir_first.specs.declared.tree.Expr.TheVariants as word
+use Rattle.fir_first.specs.FirstForm.{first_form, sink_of, source_of}
 use Rattle.sim_plain.specs.declared.equation.Equation.{Equation}
 use Rattle.sim_plain.specs.declared.equation.Equation.TheVariants.{Input, Copy, Add}
 use Rattle.sim_plain.specs.Settled.{DesignValue}

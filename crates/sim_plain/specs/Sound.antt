@@ -1,7 +1,7 @@
 -- What holds of each design.
 use Rattle.std.specs.Prelude.{◌≡◌, ◌≤◌, ℕ, suc, true, false, List, [], ◌∷◌, map, length}
 use Rattle.net_core.specs.declared.ports.PortInfo.{PortInfo}
-use Rattle.fir_read.specs.FirstForm.{are_distinct}
+use Rattle.fir_first.specs.FirstForm.{are_distinct}
 use Rattle.sim_plain.specs.declared.equation.Equation.{Equation}
 
 -- each port's signal is its place, the first being k; it isn't signed, and its width is at most 128

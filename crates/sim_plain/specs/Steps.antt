@@ -2,15 +2,15 @@
 use Rattle.std.specs.Prelude.{ℕ, Bool, ◌&&◌, nat_lt, nat_le, max, if◌then◌else◌, List, [], ◌∷◌, ◌++◌, length, Option, Some, None, option_map, is_none, option_and_then, slice_set, slice_index_or}
 use Rattle.net_core.specs.declared.ports.PortInfo.{PortInfo}
 use Rattle.net_core.specs.Ports.{port_named}
-use Rattle.fir_read.specs.declared.tree.Port.{Port}
-use Rattle.fir_read.specs.declared.tree.Stmt.{Stmt}
-use Rattle.fir_read.specs.declared.tree.Expr.{Expr}
-use Rattle.fir_read.specs.declared.tree.Expr.TheVariants as word
-use Rattle.fir_read.specs.FirstForm.{sink_of, source_of}
+use Rattle.fir_first.specs.declared.tree.Port.{Port}
+use Rattle.fir_first.specs.declared.tree.Stmt.{Stmt}
+use Rattle.fir_first.specs.declared.tree.Expr.{Expr}
+use Rattle.fir_first.specs.declared.tree.Expr.TheVariants as word
+use Rattle.fir_first.specs.FirstForm.{sink_of, source_of}
 use Rattle.sim_plain.specs.declared.equation.Equation.{Equation}
 use Rattle.sim_plain.specs.declared.equation.Equation.TheVariants.{Input, Copy, Add}
-use Rattle.fir_read.specs.declared.tree.Module.{Module}
-use Rattle.fir_read.specs.declared.tree.Circuit.{Circuit}
+use Rattle.fir_first.specs.declared.tree.Module.{Module}
+use Rattle.fir_first.specs.declared.tree.Circuit.{Circuit}
 use Rattle.std.specs.Str.{bytes_eq}
 use Rattle.sim_plain.specs.Settled.{DesignValue}
 use Rattle.sim_plain.specs.DesignOf.{port_info}

@@ -6,7 +6,7 @@ ghost use Rattle.std.specs.Prelude.{◌≡◌, ℕ, ◌≤◌, ◌<◌, List, le
 ghost use Rattle.sim_plain.specs.Settled.{DesignValue, net_in};
 ghost use Rattle.net_core.specs.declared.ports.PortInfo.{PortInfo};
 ghost use Rattle.net_core.specs.Ports.{port_named};
-ghost use Rattle.fir_read.specs.FirstForm.{are_distinct};
+ghost use Rattle.fir_first.specs.FirstForm.{are_distinct};
 ghost use Rattle.sim_plain.specs.Sound.{IsSound, IsPortAt};
 ghost use Rattle.sim_plain.specs.Seen.{net_seen};
 

@@ -8,7 +8,7 @@ ghost use Rattle.sim_plain.specs.DesignOf.{port_info};
 ghost use Rattle.sim_plain.specs.Seen.{draft_seen};
 
 use crate::equation::Equation;
-use fir_read::{Expr, FormFault, Port, Stmt};
+use fir_first::{Expr, FormFault, Port, Stmt};
 use net_core::{PortInfo, PortTable, Signal};
 use std::alloc::Global;
 use tb_base::{Memory, Width};

@@ -7,7 +7,7 @@ ghost use Rattle.sim_plain.specs.Seen.{draft_seen};
 use crate::design::Design;
 use crate::draft::{Draft, push};
 use crate::equation::Equation;
-use fir_read::{Circuit, FormFault, Module, Port, Stmt};
+use fir_first::{Circuit, FormFault, Module, Port, Stmt};
 use std::alloc::Global;
 
 fn add_ports(alloc: Global, draft: &mut Draft, ports: &[Port]) -> Result<(), FormFault>

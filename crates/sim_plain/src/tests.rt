@@ -1,5 +1,5 @@
 use super::*;
-use fir_read::{Circuit, Expr, FormFault, Module, Port, Stmt};
+use fir_first::{Circuit, Expr, FormFault, Module, Port, Stmt};
 use net_core::Signal;
 use std::test::Fail;
 use tb_base::{Name, Seq};
