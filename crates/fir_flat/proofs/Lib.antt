@@ -1,0 +1,11 @@
+pub mod Rolled
+pub mod ExampleTypes
+pub mod Weighed
+pub mod Over
+pub mod Cuts
+pub mod Cutting
+pub mod Gathered
+pub mod Agreed
+pub mod Moved
+pub mod HomeFacts
+pub mod LeafCounts

@@ -1,0 +1,12 @@
+pub mod Shapes
+pub mod Bodies
+pub mod Values
+pub mod Kinds
+pub mod Counts
+pub mod Modules
+pub mod Measures
+pub mod Homes
+pub mod Tallies
+pub mod Elaboration
+pub mod Limits
+pub mod Examples

@@ -1,0 +1,140 @@
+//! Counts of modules with all their instances, once for each module.
+//!
+//! The counts begin at 0. A sweep raises each to what the counts of its instances' modules give; once
+//! a sweep raises none, they are right. No count goes beyond one past the greatest limit.
+ghost use Rattle.std.specs.Prelude.{◌≡◌, ◌≤◌, ◌<◌, ℕ, length, slice_index, IfOk, true, false, vec_len};
+ghost use Rattle.fir_flat.specs.Modules.{own_signals};
+ghost use Rattle.fir_flat.specs.Measures.{own_weight};
+ghost use Rattle.fir_flat.specs.Counts.{cut};
+ghost use Rattle.fir_flat.specs.Homes.{next_count, next_at, room, Lower, recounted, rises, count, IsRanked, AreHomes};
+
+use crate::counts::sum;
+use crate::own::tally_of;
+use fir_ast::Module;
+use std::alloc::Global;
+use tb_base::Memory;
+
+/// A module: what it counts itself, and the places of its instances' modules.
+#[derive(Drop)]
+pub(crate) struct Home {
+    pub(crate) own: u64,
+    pub(crate) instances: Vec<usize>,
+}
+
+/// The count of one module over those of its instances' homes.
+fn count_of(home: &Home, counts: &[u64]) -> u64
+    ensures { result ≡ next_count counts.now home.now }
+{
+    let mut total = sum(home.own, 0);
+    for instance in &home.instances {
+        total = sum(total, count_at(counts, *instance));
+    }
+    total
+}
+
+pub(crate) fn count_at(counts: &[u64], number: usize) -> u64
+    ensures { result ≡ slice_index counts.now number }
+{
+    if number < counts.len() {
+        counts[number]
+    } else {
+        0
+    }
+}
+
+/// Counts one module anew, and says whether its count rose.
+fn recount(homes: &[Home], number: usize, counts: &mut [u64]) -> bool
+    requires at { number < length homes.now }
+    requires long { length counts.old ≡ length homes.now }
+    ensures value { counts.new ≡ recounted homes.now number counts.old }
+    ensures rose { result ≡ rises homes.now number counts.old }
+{
+    let total = count_at_place(homes, number, counts);
+    if counts[number] < total {
+        counts[number] = total;
+        return true;
+    }
+    false
+}
+
+fn count_at_place(homes: &[Home], number: usize, counts: &[u64]) -> u64
+    ensures { result ≡ next_at homes.now counts.now number }
+{
+    match homes.get(number) {
+        Some(home) => count_of(home, counts),
+        None => 0,
+    }
+}
+
+/// Counts all homes once, the last first, and says whether a count rose.
+fn sweep(homes: &[Home], counts: &mut [u64]) -> bool
+    requires ranked { (rank : ℕ → ℕ) × IsRanked rank homes.now }
+    requires long { length counts.old ≡ length homes.now }
+    requires lower { Lower homes.now counts.old }
+    ensures lower { Lower homes.now counts.new }
+    ensures rose { result ≡ true → room counts.new < room counts.old }
+    ensures met { result ≡ false → (k : ℕ) → k < length homes.now → next_at homes.now counts.new k ≤ slice_index counts.new k }
+{
+    let mut rose = false;
+    let mut number = homes.len();
+    while number > 0 {
+        number -= 1;
+        if recount(homes, number, counts) {
+            rose = true;
+        }
+    }
+    rose
+}
+
+/// The count of each module, cut at one past the limit.
+pub(crate) fn capped_counts(alloc: Global, homes: &[Home]) -> Result<Vec<u64>, Memory>
+    requires { (rank : ℕ → ℕ) × IsRanked rank homes.now }
+    ensures { IfOk result (λ counts. (k : ℕ) → k < length homes.now → slice_index counts.items k ≡ cut (count homes.now k)) }
+{
+    let mut counts = zeros(alloc, homes.len())?;
+    loop {
+        if !sweep(homes, &mut counts) {
+            return Ok(counts);
+        }
+    }
+}
+
+fn zeros(alloc: Global, n: usize) -> Result<Vec<u64>, Memory>
+    ensures { IfOk result (λ v. (vec_len v ≡ n) × ((k : ℕ) → slice_index v.items k ≡ 0)) }
+{
+    let mut v = Vec::new(alloc);
+    for _ in 0..n {
+        v.push(0)?;
+    }
+    Ok(v)
+}
+
+/// The modules by their signals.
+pub(crate) fn signal_homes(alloc: Global, modules: &[Module]) -> Result<Vec<Home>, Memory>
+    ensures { IfOk result (λ hs. AreHomes (own_signals modules.now) modules.now modules.now hs.items) }
+{
+    let mut homes = Vec::new(alloc);
+    for home in modules {
+        let tally = tally_of(alloc, modules, home)?;
+        homes.push(Home {
+            own: sum(tally.signals, 0),
+            instances: tally.instances,
+        })?;
+    }
+    Ok(homes)
+}
+
+/// The modules by their parts.
+pub(crate) fn part_homes(alloc: Global, modules: &[Module]) -> Result<Vec<Home>, Memory>
+    ensures { IfOk result (λ hs. AreHomes (own_weight modules.now) modules.now modules.now hs.items) }
+{
+    let mut homes = Vec::new(alloc);
+    for home in modules {
+        let tally = tally_of(alloc, modules, home)?;
+        homes.push(Home {
+            own: sum(tally.parts, 0),
+            instances: tally.instances,
+        })?;
+    }
+    Ok(homes)
+}

@@ -1,0 +1,22 @@
+-- The steps of the inference.
+use Rattle.std.specs.Prelude.{ℕ, if◌then◌else◌, List, Option, Some, None}
+use Rattle.net_core.specs.declared.tree.SignalInfo.{SignalInfo}
+use Rattle.net_core.specs.Signals.{given_width}
+use Rattle.net_core.specs.Widths.{is_free}
+use Rattle.net_core.specs.WidthRules.{lesser, WidthRule, too_wide, bad_range}
+use Rattle.fir_widths.specs.declared.inference.WidthFault.{WidthFault}
+use Rattle.fir_widths.specs.declared.inference.WidthFault.TheVariants.{TooWide, BadRange}
+
+-- where widths start: as they are written, and at 0
+abbrev pub start_width : SignalInfo → ℕ
+start_width i = if is_free i then 0 else given_width i
+
+-- the lesser of what may be there
+abbrev pub lesser_of : Option ℕ → Option ℕ → Option ℕ
+lesser_of None o = o
+lesser_of (Some n) o = lesser n o
+
+-- the fault that tells of a broken rule
+abbrev pub fault_of : WidthRule → WidthFault
+fault_of (too_wide line) = TooWide line
+fault_of (bad_range line) = BadRange line

@@ -1,0 +1,4 @@
+pub mod Gathering
+pub mod Inferring
+pub mod Judging
+pub mod Raise
