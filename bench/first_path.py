@@ -53,18 +53,18 @@ def test(size):
         k += 1
 
 
-def spawned(program, names, output):
-    """A run of the program, begun, with its standard output on a file descriptor."""
-    return os.posix_spawn(program, [program, 'run'] + names, os.environ,
+def spawned(program, words, output):
+    """A command of the program, begun, with its standard output on a file descriptor."""
+    return os.posix_spawn(program, [program] + words, os.environ,
                           file_actions=[(os.POSIX_SPAWN_DUP2, output, 1)])
 
 
-def processor_time(program, names):
+def processor_time(program, words):
     """The least processor time of some runs in milliseconds, and the status of the last."""
     best, status = None, None
     with open(os.devnull, 'w') as sink:
         for _ in range(ROUNDS):
-            child = spawned(program, names, sink.fileno())
+            child = spawned(program, words, sink.fileno())
             _, status, usage = os.wait4(child, 0)
             taken = (usage.ru_utime + usage.ru_stime) * 1000
             best = taken if best is None else min(best, taken)
@@ -76,7 +76,7 @@ def is_asleep(child):
         return file.read().rpartition(')')[2].split()[0] == 'S'
 
 
-def peak_memory(program, names):
+def peak_memory(program, words):
     """The greatest resident memory of a run in KiB.
 
     The run writes into a full pipe, so that it sleeps at its first write, when all that it makes has been made.
@@ -88,7 +88,7 @@ def peak_memory(program, names):
             os.write(start, bytes(4096))
     except BlockingIOError:
         os.set_blocking(start, True)
-    child = spawned(program, names, start)
+    child = spawned(program, words, start)
     os.close(start)
     seen = 0
     while seen < 5:
@@ -105,13 +105,13 @@ def peak_memory(program, names):
 
 def measured(program, folder, circuit_text, test_text):
     """Processor time in milliseconds, peak memory in KiB, and the status."""
-    names = []
+    words = ['run']
     for name, text in (('c.fir', circuit_text), ('t.test', test_text)):
-        names.append(os.path.join(folder, name))
-        with open(names[-1], 'w') as file:
+        words.append(os.path.join(folder, name))
+        with open(words[-1], 'w') as file:
             file.write(text)
-    taken, status = processor_time(program, names)
-    return taken, peak_memory(program, names), status
+    taken, status = processor_time(program, words)
+    return taken, peak_memory(program, words), status
 
 
 def main():

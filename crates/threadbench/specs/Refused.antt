@@ -1,15 +1,19 @@
 -- Which commands are refused for their circuit, and which for their test.
-use Rattle.std.specs.Prelude.{ℕ, Bool, false, not, ◌&&◌, List, length, Some, None, is_some, nat_lt, if◌then◌else◌}
+use Rattle.std.specs.Prelude.{ℕ, Bool, false, not, ◌&&◌, List, length, Some, None, Ok, Err, is_some, is_ok, nat_lt}
 use Rattle.std.specs.declared.option.Option.{Option}
 use Rattle.bench_desk.specs.declared.desk.DeskFile.{DeskFile}
 use Rattle.bench_desk.specs.Meaning.{content}
 use Rattle.sim_plain.specs.Settled.{DesignValue}
-use Rattle.threadbench.specs.Answer.{RunLine, circuit_limit, test_limit}
-use Rattle.threadbench.specs.Forms.{design_for, acts_for}
+use Rattle.threadbench.specs.Answer.{RunLine, CommandLine, Run, Fmt, test_limit}
+use Rattle.threadbench.specs.Forms.{circuit_in, design_in, acts_for}
 
--- the text is that of a circuit within its limit and in the first form
+-- the text is that of a circuit within its limit that a run takes
 abbrev pub is_circuit : List ℕ → Bool
-is_circuit text = not (nat_lt circuit_limit (length text)) && is_some (design_for text)
+is_circuit text = is_ok (design_in text)
+
+-- the text spells a circuit within its limit
+abbrev pub is_spelled : List ℕ → Bool
+is_spelled text = is_ok (circuit_in text)
 
 -- the text is that of a test within its limit and in the first form for the design
 abbrev pub is_test : DesignValue → List ℕ → Bool
@@ -19,17 +23,22 @@ is_test design text = not (nat_lt test_limit (length text)) && is_some (acts_for
 abbrev pub refuses_test_of : DesignValue → RunLine → List DeskFile → Bool
 refuses_test_of design line files = elim (content files line.test) [ None ↦ false | Some test ↦ not (is_test design test) ]
 
+-- a file of that name is held, and its text doesn't pass the test
+abbrev pub fails : (List ℕ → Bool) → List ℕ → List DeskFile → Bool
+fails test name files = elim (content files name) [ None ↦ false | Some text ↦ not (test text) ]
+
 -- the line's circuit is held, and is none
-abbrev pub refuses_circuit : Option RunLine → List DeskFile → Bool
+abbrev pub refuses_circuit : Option CommandLine → List DeskFile → Bool
 refuses_circuit None files = false
-refuses_circuit (Some line) files = elim (content files line.circuit) [ None ↦ false | Some text ↦ not (is_circuit text) ]
+refuses_circuit (Some (Run line)) files = fails is_circuit line.circuit files
+refuses_circuit (Some (Fmt name)) files = fails is_spelled name files
 
 -- the test is refused for the circuit of that text, where it is one
 abbrev pub refuses_test_for : RunLine → List DeskFile → List ℕ → Bool
-refuses_test_for line files text =
-    if is_circuit text then (elim (design_for text) [ None ↦ false | Some design ↦ refuses_test_of design line files ]) else false
+refuses_test_for line files text = elim (design_in text) [ Err r ↦ false | Ok design ↦ refuses_test_of design line files ]
 
 -- the line's circuit is one, and its test is held and is none for it
-abbrev pub refuses_test : Option RunLine → List DeskFile → Bool
+abbrev pub refuses_test : Option CommandLine → List DeskFile → Bool
 refuses_test None files = false
-refuses_test (Some line) files = elim (content files line.circuit) [ None ↦ false | Some text ↦ refuses_test_for line files text ]
+refuses_test (Some (Run line)) files = elim (content files line.circuit) [ None ↦ false | Some text ↦ refuses_test_for line files text ]
+refuses_test (Some (Fmt name)) files = false

@@ -4,7 +4,8 @@ use Rattle.std.specs.declared.option.Option.{Option}
 use Rattle.bench_desk.specs.declared.desk.DeskFile.{DeskFile}
 use Rattle.bench_desk.specs.declared.desk.Phase.TheVariants.{Reading, Ended}
 use Rattle.bench_desk.specs.Meaning.{Meaning, SlotState, content}
-use Rattle.threadbench.specs.Answer.{RunLine, circuit_limit, test_limit}
+use Rattle.threadbench.specs.Answer.{RunLine, CommandLine, Run, Fmt, test_limit}
+use Rattle.threadbench.specs.Forms.{circuit_limit}
 use Rattle.threadbench.specs.Refused.{is_circuit}
 
 -- a slot from which a file was read up to its end, or to one byte past the limit
@@ -27,11 +28,21 @@ abbrev pub test_slot_after : RunLine → List DeskFile → List ℕ → SlotStat
 test_slot_after line files text slot =
     if is_circuit text then (elim (content files line.test) [ None ↦ slot | Some test ↦ read_slot test_limit line.test test ]) else slot
 
--- the slots once the line was answered
-abbrev pub slots_after : Option RunLine → List DeskFile → Slots → Slots
-slots_after None files slots = slots
-slots_after (Some line) files slots =
+-- the slots once the texts of a run were read
+abbrev pub slots_of_run : RunLine → List DeskFile → Slots → Slots
+slots_of_run line files slots =
     elim (content files line.circuit) [
       | None ↦ slots
       | Some text ↦ record { circuit = read_slot circuit_limit line.circuit text; test = test_slot_after line files text slots.test }
     ]
+
+-- the slots once a circuit alone was read
+abbrev pub slots_of_fmt : List ℕ → List DeskFile → Slots → Slots
+slots_of_fmt name files slots =
+    elim (content files name) [ None ↦ slots | Some text ↦ record { circuit = read_slot circuit_limit name text; test = slots.test } ]
+
+-- the slots once the line was answered
+abbrev pub slots_after : Option CommandLine → List DeskFile → Slots → Slots
+slots_after None files slots = slots
+slots_after (Some (Run line)) files slots = slots_of_run line files slots
+slots_after (Some (Fmt name)) files slots = slots_of_fmt name files slots

@@ -7,6 +7,7 @@
 //!
 //!     words     the line that the words are
 //!     reading   a file of the desk, up to its end or to one byte past its limit
+//!     refusal   the line that says why a circuit is refused
 //!     layers    from the text of a circuit to its design, and from the text of a test to its actions
 //!     reply     all refusals and the run, with nothing put
 //!     writing   the reply put on the desk
@@ -17,6 +18,7 @@
 
 mod layers;
 mod reading;
+mod refusal;
 mod reply;
 mod top;
 mod words;

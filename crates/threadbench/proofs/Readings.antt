@@ -1,0 +1,45 @@
+-- What reading a text comes to is told by the circuit that is found, or by the fault.
+use Rattle.std.proofs.Common.{◌≡◌, ℕ, List, Option, Some, None, Ok, Err, refl, ap, subst}
+use Rattle.std.specs.Prelude.{IsErrAnd}
+use Rattle.tb_base.specs.declared.place.Place.{Place}
+use Rattle.text_grammar.specs.declared.fault.Kind.{Kind}
+use Rattle.text_grammar.specs.Part.{Outcome, whole}
+use Rattle.fir_lex.specs.Lex.{items_of}
+use Rattle.fir_ast.specs.CircuitGrammar.{circuit}
+use Rattle.fir_ast.specs.declared.tree.Circuit.{Circuit}
+use Rattle.fir_read.specs.declared.fault.ReadFault.{ReadFault}
+use Rattle.fir_read.specs.declared.fault.ReadFault.TheVariants as read
+use Rattle.text_grammar.specs.declared.fault.Kind.TheVariants as kind
+use Rattle.fir_read.specs.Circuits.{circuit_of, circuit_fault, FaultFound, found, fault_of, place_left}
+use Rattle.threadbench.specs.Forms.{Faulty, read_as, spelled}
+use Rattle.threadbench.specs.Forms.{Refusal}
+use Rattle.threadbench.specs.Refusals.{refusal_text}
+use Rattle.threadbench.specs.Answers.{LineOfFault}
+
+found_is : (text : List ℕ) (o : Outcome Circuit) (c : Circuit) → found o ≡ Some c → read_as text o ≡ Ok c
+found_is text (Ok x) c h = let e : x.0 ≡ c = cc in ap (λ (z : Circuit). Ok z) e
+found_is text (Err f) c h = absurd cc
+
+pub found_spelled : (text : List ℕ) (c : Circuit) → circuit_of text ≡ Some c → spelled text ≡ Ok c
+unfolding circuit_of spelled
+found_spelled text c h = found_is text ((whole circuit).reads (items_of text)) c h
+
+fault_is : (text : List ℕ) (o : Outcome Circuit) (kind : Kind) (place : Place) → fault_of text o ≡ Some (kind, place) → read_as text o ≡ Err (Faulty kind place)
+fault_is text (Ok x) kind place h = absurd cc
+fault_is text (Err f) kind place h =
+    let e : (f.0, place_left text f.1) ≡ (kind, place) = cc in
+    ap (λ (z : Kind × Place). Err (Faulty z.0 z.1)) e
+
+fault_spelled : (text : List ℕ) (kind : Kind) (place : Place) → circuit_fault text ≡ Some (kind, place) → spelled text ≡ Err (Faulty kind place)
+unfolding circuit_fault spelled
+fault_spelled text kind place h = fault_is text ((whole circuit).reads (items_of text)) kind place h
+
+one_answers : (text : List ℕ) (kind : Kind) (place : Place) (line : List ℕ) → circuit_fault text ≡ Some (kind, place) → line ≡ refusal_text (Faulty kind place) → IsErrAnd (spelled text) (λ r. line ≡ refusal_text r)
+one_answers text kind place line h is = rw (fault_spelled text kind place h) is
+
+pub fault_answers : (text : List ℕ) (fault : ReadFault) (line : List ℕ) → FaultFound text fault → LineOfFault fault line → IsErrAnd (spelled text) (λ r. line ≡ refusal_text r)
+fault_answers text (read.Syntax place) line h is = one_answers text kind.Syntax place line h is
+fault_answers text (read.Unsupported place form) line h is = one_answers text (kind.Unsupported form) place line h is
+fault_answers text (read.NumberTooWide place) line h is = one_answers text kind.NumberTooWide place line h is
+fault_answers text (read.TooDeep place) line h is = one_answers text kind.TooDeep place line h is
+fault_answers text (read.Memory m) line h is = absurd is

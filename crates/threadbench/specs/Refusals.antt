@@ -1,0 +1,59 @@
+-- The texts of refusals: one line each.
+use Rattle.std.specs.Prelude.{ℕ, List, [], ◌∷◌, ◌++◌, codes, Option, Some, None}
+use Rattle.std.specs.Fmt.{decimal}
+use Rattle.tb_base.specs.declared.place.Place.{Place}
+use Rattle.tb_base.specs.Places.{place_text}
+use Rattle.text_grammar.specs.declared.fault.Kind.{Kind}
+use Rattle.text_grammar.specs.declared.fault.Kind.TheVariants.{Syntax, TooDeep, NumberTooWide, Unsupported, HeadTooDeep}
+use Rattle.text_grammar.specs.declared.fault.Form.{Form}
+use Rattle.text_grammar.specs.declared.fault.Form.TheVariants as form
+use Rattle.fir_check.specs.declared.best.Rule.{Rule}
+use Rattle.fir_check.specs.declared.best.Rule.TheVariants.{NoMain, DoubleName, UnknownName, WrongKind, WrongFlow, ClockUse, InstanceCycle}
+use Rattle.threadbench.specs.Forms.{Refusal, TooLong, Faulty, Breaks, NotInForm}
+
+-- the word of a form that is known and not taken
+abbrev pub form_text : Form → List ℕ
+form_text form.Annotation = codes "annotation"
+form_text form.ExternalModule = codes "external module"
+form_text form.Type = codes "type"
+form_text form.Enumeration = codes "enumeration"
+form_text form.Operation = codes "operation"
+form_text form.Connect = codes "connect"
+form_text form.Statement = codes "statement"
+form_text form.Memory = codes "memory"
+form_text form.QuotedName = codes "quoted name"
+
+abbrev pub kind_text : Kind → List ℕ
+kind_text Syntax = codes "syntax"
+kind_text TooDeep = codes "too deep"
+kind_text HeadTooDeep = codes "too deep"
+kind_text NumberTooWide = codes "number too wide"
+kind_text (Unsupported f) = codes "unsupported " ++ form_text f
+
+abbrev pub rule_text : Rule → List ℕ
+rule_text NoMain = codes "no main module"
+rule_text DoubleName = codes "double name"
+rule_text UnknownName = codes "unknown name"
+rule_text WrongKind = codes "wrong kind"
+rule_text WrongFlow = codes "wrong flow"
+rule_text ClockUse = codes "clock use"
+rule_text InstanceCycle = codes "instance cycle"
+
+-- `line 3 column 20: number too wide`
+abbrev pub fault_text : Kind → Place → List ℕ
+fault_text kind place = place_text place.line place.column ++ (codes ": " ++ kind_text kind)
+
+-- `line 6: wrong flow`
+abbrev pub numbered : ℕ → List ℕ → List ℕ
+numbered line text = codes "line " ++ (decimal line ++ (codes ": " ++ text))
+
+-- what is said of a circuit
+abbrev pub circuit_line : List ℕ → List ℕ
+circuit_line text = codes "circuit: " ++ (text ++ 10 ∷ [])
+
+-- the text of a circuit's refusal
+unfoldable pub refusal_text : Refusal → List ℕ
+refusal_text TooLong = circuit_line (codes "too long")
+refusal_text (Faulty kind place) = circuit_line (fault_text kind place)
+refusal_text (Breaks rule line) = circuit_line (numbered line (rule_text rule))
+refusal_text NotInForm = circuit_line (codes "not in the first form")
