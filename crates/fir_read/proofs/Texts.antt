@@ -16,7 +16,8 @@ use Rattle.fir_lex.specs.Lex.{items_of}
 use Rattle.fir_ast.specs.Limits.{Limits, limits}
 use Rattle.fir_ast.specs.CircuitGrammar.{nested_within, circuit_text, circuit_within, circuit, block_limit}
 use Rattle.fir_ast.specs.declared.tree.Circuit.{Circuit}
-use Rattle.fir_read.specs.Circuits.{spells_circuit, spells_freely, is_front, found, circuit_of, place_left, fault_of, circuit_fault, IsFirstFault, Faulty, FaultFound, fault_as, FaultWhereNone}
+use Rattle.fir_ast.specs.Circuits.{spells_circuit, spells_freely, is_front, found, circuit_of, place_left, fault_of, circuit_fault, IsFirstFault, FaultWhereNone}
+use Rattle.fir_read.specs.Faults.{Faulty, FaultFound, fault_as}
 use Rattle.fir_read.specs.declared.fault.ReadFault.{ReadFault}
 use Rattle.fir_read.proofs.Faults.{Starts, fault_found, spells_or_fault, spelled_no_fault}
 use Rattle.fir_read.proofs.Readings.{anything}

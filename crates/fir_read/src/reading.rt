@@ -2,7 +2,8 @@
 
 ghost use Rattle.std.specs.Prelude.{◌≡◌, ◌<◌, ◌-◌, ◌^◌, Some, length, IfOk, IfErr};
 ghost use Rattle.fir_lex.specs.Lex.{items_of};
-ghost use Rattle.fir_read.specs.Circuits as spec;
+ghost use Rattle.fir_ast.specs.Circuits as circuits;
+ghost use Rattle.fir_read.specs.Faults as faults;
 
 use crate::fault::ReadFault;
 use crate::modules::whole_circuit;
@@ -16,7 +17,7 @@ use text_grammar::{Item, Kind, ReadError, Tokens};
 fn place_left(text: &[u8], items: &[Item], left: usize) -> Place
     requires short { length text.now < 2 ^ 32 - 1 }
     requires items { items.now ≡ items_of text.now }
-    ensures { result ≡ spec.place_left text.now left }
+    ensures { result ≡ circuits.place_left text.now left }
 {
     let at = items.len().saturating_sub(left);
     match &items[at..] {
@@ -27,7 +28,7 @@ fn place_left(text: &[u8], items: &[Item], left: usize) -> Place
 
 /// The fault of a kind, at a place.
 fn fault(kind: Kind, place: Place) -> ReadFault
-    ensures { result ≡ spec.fault_as kind place }
+    ensures { result ≡ faults.fault_as kind place }
 {
     match kind {
         Kind::Syntax => ReadFault::Syntax(place),
@@ -43,10 +44,10 @@ fn fault(kind: Kind, place: Place) -> ReadFault
 /// memory ran out, and then nothing is said of the text. The time and the memory are linear in the length of the text.
 pub fn read(alloc: Global, text: &[u8]) -> Result<Circuit, ReadFault>
     requires { length text.now < 2 ^ 32 - 1 }
-    ensures found { IfOk result (λ c. spec.circuit_of text.now ≡ Some c) }
-    ensures spelled { IfOk result (λ c. spec.spells_circuit text.now c) }
-    ensures first { IfErr result (λ e. spec.Faulty text.now e) }
-    ensures fault { IfErr result (λ e. spec.FaultFound text.now e) }
+    ensures found { IfOk result (λ c. circuits.circuit_of text.now ≡ Some c) }
+    ensures spelled { IfOk result (λ c. circuits.spells_circuit text.now c) }
+    ensures first { IfErr result (λ e. faults.Faulty text.now e) }
+    ensures fault { IfErr result (λ e. faults.FaultFound text.now e) }
 {
     let items = items(alloc, text)?;
     let mut tokens = Tokens::new(&items);
@@ -59,15 +60,15 @@ pub fn read(alloc: Global, text: &[u8]) -> Result<Circuit, ReadFault>
 
 /// A text spells at most one circuit, the one that `circuit_of` finds.
 pub fn texts_spell_once()
-    ensures { spec.SpelledOnce }
+    ensures { circuits.SpelledOnce }
 {}
 
 /// A text spells a circuit or has a first fault, and not both.
 pub fn fault_where_none()
-    ensures { spec.FaultsWhereNone }
+    ensures { circuits.FaultsWhereNone }
 {}
 
 /// A front of circuits is exactly what some text of the grammar begins with.
 pub fn fronts_go_on()
-    ensures { spec.FrontsGoOn }
+    ensures { circuits.FrontsGoOn }
 {}

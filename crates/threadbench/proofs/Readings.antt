@@ -10,7 +10,8 @@ use Rattle.fir_ast.specs.declared.tree.Circuit.{Circuit}
 use Rattle.fir_read.specs.declared.fault.ReadFault.{ReadFault}
 use Rattle.fir_read.specs.declared.fault.ReadFault.TheVariants as read
 use Rattle.text_grammar.specs.declared.fault.Kind.TheVariants as kind
-use Rattle.fir_read.specs.Circuits.{circuit_of, circuit_fault, FaultFound, found, fault_of, place_left}
+use Rattle.fir_ast.specs.Circuits.{circuit_of, circuit_fault, found, fault_of, place_left}
+use Rattle.fir_read.specs.Faults.{FaultFound}
 use Rattle.threadbench.specs.Forms.{Faulty, read_as, spelled}
 use Rattle.threadbench.specs.Forms.{Refusal}
 use Rattle.threadbench.specs.Refusals.{refusal_text}

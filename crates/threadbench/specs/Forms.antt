@@ -7,7 +7,7 @@ use Rattle.fir_ast.specs.declared.tree.Circuit.{Circuit}
 use Rattle.text_grammar.specs.Part.{Outcome, whole}
 use Rattle.fir_lex.specs.Lex.{items_of}
 use Rattle.fir_ast.specs.CircuitGrammar.{circuit}
-use Rattle.fir_read.specs.Circuits.{place_left}
+use Rattle.fir_ast.specs.Circuits.{place_left}
 use Rattle.fir_check.specs.declared.best.Rule.{Rule}
 use Rattle.fir_check.specs.Rules.{circuit_rule}
 use Rattle.fir_first.specs.FirstTree.{first_tree}

@@ -1,6 +1,6 @@
 use Rattle.std.proofs.Common.{◌∙◌, ap}
 use Rattle.tb_base.specs.declared.place.Place.{Place}
-use Rattle.fir_read.specs.Circuits.{fault_as}
+use Rattle.fir_read.specs.Faults.{fault_as}
 use Rattle.fir_read.proofs.Texts.{read_found, found_spelled, read_faulty, read_fault_found}
 use Rattle.fir_read.proofs.reading.read.Goals as goal
 

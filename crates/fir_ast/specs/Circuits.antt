@@ -3,15 +3,12 @@ use Rattle.std.specs.Prelude.{◌≡◌, ◌↔◌, ◌⊎◌, ◌-◌, ℕ, Lis
 use Rattle.tb_base.specs.declared.place.Place.{Place}
 use Rattle.text_grammar.specs.declared.item.Item.{Item}
 use Rattle.text_grammar.specs.declared.fault.Kind.{Kind}
-use Rattle.text_grammar.specs.declared.fault.Kind.TheVariants as kind
 use Rattle.text_grammar.specs.Part.{Outcome, whole}
 use Rattle.text_grammar.specs.Fronts.{IsFault}
 use Rattle.fir_lex.specs.Lex.{items_of, end_of}
 use Rattle.fir_ast.specs.Limits.{Limits}
 use Rattle.fir_ast.specs.CircuitGrammar.{circuit_within, circuit}
 use Rattle.fir_ast.specs.declared.tree.Circuit.{Circuit}
-use Rattle.fir_read.specs.declared.fault.ReadFault.{ReadFault}
-use Rattle.fir_read.specs.declared.fault.ReadFault.TheVariants as fault
 
 -- the text's items are those of the circuit, by the rows of the grammar and within its limits
 unfoldable pub spells_circuit : List ℕ → Circuit → Type 0
@@ -57,30 +54,6 @@ pub record IsFirstFault (text : List ℕ) (kind : Kind) (place : Place) : Type 0
   pub left : ℕ
   pub fault : IsFault (whole circuit) spells_freely (items_of text) kind left
   pub there : place ≡ place_left text left
-
--- the fault of a kind, at a place
-abbrev pub fault_as : Kind → Place → ReadFault
-fault_as kind.Syntax place = fault.Syntax place
-fault_as (kind.Unsupported form) place = fault.Unsupported place form
-fault_as kind.NumberTooWide place = fault.NumberTooWide place
-fault_as kind.TooDeep place = fault.TooDeep place
-fault_as kind.HeadTooDeep place = fault.TooDeep place
-
--- a fault that is answered is the first one; want of memory says nothing of the text
-abbrev pub Faulty : List ℕ → ReadFault → Type 0
-Faulty text (fault.Syntax place) = IsFirstFault text kind.Syntax place
-Faulty text (fault.Unsupported place form) = IsFirstFault text (kind.Unsupported form) place
-Faulty text (fault.NumberTooWide place) = IsFirstFault text kind.NumberTooWide place
-Faulty text (fault.TooDeep place) = IsFirstFault text kind.TooDeep place
-Faulty text (fault.Memory m) = Unit {0}
-
--- and it is the one that the definition finds
-abbrev pub FaultFound : List ℕ → ReadFault → Type 0
-FaultFound text (fault.Syntax place) = circuit_fault text ≡ Some (kind.Syntax, place)
-FaultFound text (fault.Unsupported place form) = circuit_fault text ≡ Some (kind.Unsupported form, place)
-FaultFound text (fault.NumberTooWide place) = circuit_fault text ≡ Some (kind.NumberTooWide, place)
-FaultFound text (fault.TooDeep place) = circuit_fault text ≡ Some (kind.TooDeep, place)
-FaultFound text (fault.Memory m) = Unit {0}
 
 -- ---- laws
 

@@ -1,0 +1,2 @@
+//! Laws of reading what is printed.
+#![tactic(auto)]
