@@ -1,1 +1,4 @@
 pub mod Splits
+pub mod TokenSound
+pub mod LineSound
+pub mod ItemSound
