@@ -6,3 +6,9 @@ pub mod Respelling
 pub mod Folds
 pub mod TypesAgain
 pub mod ExprsAgain
+pub mod RowFolds
+pub mod RowSpelling
+pub mod RowParts
+pub mod LineRows
+pub mod VerifyingRows
+pub mod RowsAgain
