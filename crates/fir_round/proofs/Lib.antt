@@ -1,1 +1,5 @@
 pub mod Splits
+pub mod Spaces
+pub mod Keeps
+pub mod Blocks
+pub mod Modules
