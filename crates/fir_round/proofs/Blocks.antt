@@ -1,6 +1,6 @@
 -- Statements and their blocks: what is spelled somewhere is spelled again as it is printed.
-use Rattle.std.proofs.Common.{◌≡◌, ℕ, zero, suc, ◌+◌, ◌<◌, ◌≤◌, Bool, true, false, ◌==◌, List, [], ◌∷◌, ◌++◌, length, map, refl, sym, ap, ◌∙◌, append_assoc, append-nil, arith, subst, inl, inr}
-use Rattle.std.specs.Prelude.{◌&&◌, ◌||◌, not, nat_lt, nat_le, Option, Some, None, codes}
+use Rattle.std.proofs.Common.{◌≡◌, ℕ, zero, suc, ◌+◌, ◌≤◌, Bool, true, false, ◌==◌, List, [], ◌∷◌, ◌++◌, length, map, refl, sym, ap, ◌∙◌, append_assoc, append-nil, arith, subst, inl, inr}
+use Rattle.std.specs.Prelude.{◌&&◌, ◌||◌, nat_lt, nat_le, Some, codes}
 use Rattle.std.specs.Str.{bytes_eq}
 use Rattle.std.proofs.lemmas.Bool.{eq-eqb, lt-ltb}
 use Rattle.std.proofs.lemmas.Bool.Decides.{nat_tests}
@@ -11,13 +11,13 @@ use Rattle.text_grammar.specs.declared.item.Token.TheVariants as token
 use Rattle.text_grammar.specs.declared.fault.Form.TheVariants.{Connect}
 use Rattle.text_grammar.specs.declared.fault.Kind.TheVariants.{HeadTooDeep, Unsupported}
 use Rattle.text_grammar.specs.Part.{Part, second, one_by, both, after, either, pick, nothing, unless, SpellsMany, many, blames_head}
-use Rattle.text_grammar.specs.Terminals.{deeper, is_word, is_symbol, is_name, keyword, mark, name}
+use Rattle.text_grammar.specs.Terminals.{is_word, is_symbol, is_name, keyword, mark, name}
 use Rattle.fir_lex.specs.Lines.{placed}
 use Rattle.fir_ast.specs.Limits.{Limits}
 use Rattle.fir_ast.specs.ExprGrammar.{operation_or, expr_in, reference_from, expr_from, expr}
 use Rattle.fir_ast.specs.RowGrammar.{pair, sink_row, sink_marked, invalidated, row_from}
 use Rattle.fir_ast.specs.Lines.{is_else, is_line, head_if, leading_word, first_word, else_word, indented}
-use Rattle.fir_ast.specs.CircuitGrammar.{Rows, Branch, Nested, no_connect, goes_on_is, else_row, else_rows, and_else_rows, when_is, when_named, when_from, statement, headed, row, first_row, all_rows, rows_with, rows, block, opens, opened_block, one_when, no_branch, else_when, else_sink, else_block, else_from, else_headed, else_line, branch, branches, make_when, opened, nested_within, is_direction}
+use Rattle.fir_ast.specs.CircuitGrammar.{Rows, Branch, Nested, no_connect, goes_on_is, else_row, else_rows, and_else_rows, when_is, when_named, when_from, statement, headed, row, first_row, all_rows, rows_with, rows, block, opens, opened_block, else_when, else_sink, else_block, else_from, else_headed, else_line, branch, branches, make_when, opened, nested_within, is_direction}
 use Rattle.fir_ast.specs.declared.tree.Expr.{Expr}
 use Rattle.fir_ast.specs.declared.tree.Expr.TheVariants as e
 use Rattle.fir_ast.specs.declared.tree.Stmt.{Stmt}
@@ -33,7 +33,7 @@ use Rattle.fir_print_laws.specs.Printable.{all_true, expr_words, expr_depth, exp
 use Rattle.fir_round.specs.Relined.{Placed, in_turn, behind_else, when_at, placed_level, stmt_placed}
 use Rattle.fir_round.specs.Again.{RowAgain, BehindAgain, ExprsAgain, RowsAgain, row_items}
 use Rattle.fir_round.proofs.Spaces.{spaces, spaces_deeper, items_both, Printed, printed_none, printed_both, at_behind, end_of, printed_line}
-use Rattle.fir_round.proofs.Keeps.{Keeps, Any, Each, each_to, each_both, keeps_to, both_keeps, after_keeps, either_keeps, pick_keeps, nothing_keeps, unless_keeps, stop_keeps, blames_keeps, indented_keeps, many_keeps, colon_keeps, end_keeps, keyword_keeps, name_keeps, leading_keeps}
+use Rattle.fir_round.proofs.Keeps.{Keeps, Any, Each, each_to, each_both, both_keeps, after_keeps, either_keeps, pick_keeps, nothing_keeps, unless_keeps, stop_keeps, blames_keeps, indented_keeps, many_keeps, colon_keeps, end_keeps, keyword_keeps, name_keeps, leading_keeps}
 
 -- ---- statements where they are printed
 

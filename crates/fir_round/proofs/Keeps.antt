@@ -1,16 +1,15 @@
 -- Parts whose values are as they should be where the items can be printed, and which leave no bracket open; once for each way to
 -- make a part.
-use Rattle.std.proofs.Common.{◌≡◌, ℕ, zero, suc, Bool, true, false, ◌==◌, List, [], ◌∷◌, ◌++◌, refl, sym, ap, ◌∙◌, subst, inl, inr}
+use Rattle.std.proofs.Common.{◌≡◌, ℕ, Bool, true, false, ◌==◌, List, [], ◌∷◌, ◌++◌, refl, sym, ap, ◌∙◌, subst, inl, inr}
 use Rattle.std.specs.Prelude.{◌&&◌, Option, Some, None}
-use Rattle.std.specs.Str.{bytes_eq}
 use Rattle.text_grammar.specs.declared.item.Item.{Item}
 use Rattle.text_grammar.specs.declared.item.Symbol.{Symbol}
 use Rattle.text_grammar.specs.declared.item.Symbol.TheVariants as s
 use Rattle.text_grammar.specs.declared.item.Token.{Token}
 use Rattle.text_grammar.specs.declared.item.Token.TheVariants as token
 use Rattle.text_grammar.specs.declared.fault.Kind.{Kind}
-use Rattle.text_grammar.specs.Part.{Part, one_by, if_so, flag, nothing, unless, stop, both, after, either, pick, SpellsMany, many, blames_head}
-use Rattle.text_grammar.specs.Terminals.{code, token_is_symbol, token_is_word, token_any_word, token_word, token_number, is_symbol, is_word, line_if, keyword, mark, name, number}
+use Rattle.text_grammar.specs.Part.{Part, one_by, if_so, nothing, unless, stop, both, after, either, pick, SpellsMany, many, blames_head}
+use Rattle.text_grammar.specs.Terminals.{code, token_is_symbol, token_is_word, token_word, token_number, is_symbol, is_word, line_if, keyword, mark, name, number}
 use Rattle.fir_ast.specs.Lines.{begins_line, line_word, head_if, leading_word, indented, SpellsFrom, many_from}
 use Rattle.fir_ast.specs.CircuitGrammar.{place_if, circuit_word}
 use Rattle.fir_print_laws.specs.Standing.{is_word_text}

@@ -3,3 +3,4 @@ pub mod Spaces
 pub mod Keeps
 pub mod Blocks
 pub mod Modules
+pub mod Whole

@@ -1,5 +1,5 @@
 -- Modules: what is spelled somewhere is spelled again as it is printed.
-use Rattle.std.proofs.Common.{◌≡◌, ℕ, suc, ◌+◌, Bool, true, false, List, [], ◌∷◌, ◌++◌, length, map, refl, sym, ap, ◌∙◌, append-nil, subst, inl, inr}
+use Rattle.std.proofs.Common.{◌≡◌, ℕ, suc, ◌+◌, Bool, true, false, List, [], ◌∷◌, ◌++◌, length, map, refl, sym, ap, append-nil, subst, inl, inr}
 use Rattle.std.specs.Prelude.{◌&&◌, Option, Some, None, codes}
 use Rattle.std.specs.List.{flat_map, list_all}
 use Rattle.std.specs.Str.{bytes_eq}
@@ -20,7 +20,6 @@ use Rattle.fir_ast.specs.declared.tree.Module.{Module}
 use Rattle.fir_ast.specs.declared.tree.Stmt.{Stmt}
 use Rattle.fir_print_laws.specs.Atoms as atoms
 use Rattle.fir_print_laws.specs.Atoms.{Atom, space, word, four, direction_word, port_line, block_lines, stmt_lines, module_lines}
-use Rattle.fir_print_laws.specs.Items.{items_at}
 use Rattle.fir_print_laws.specs.Standing.{is_word_text}
 use Rattle.fir_print_laws.specs.Printable.{stmt_fits, port_fits, module_fits}
 use Rattle.fir_round.specs.Relined.{in_turn, stmt_placed, port_placed, module_placed}
