@@ -212,8 +212,14 @@ no_else_spelled l nested c = inr (refl, refl)
 else_spelled : (l : Limits) (nested : Nested) (c line : ℕ) (ts : List Item) (xs : List Stmt) → (opened_block l nested c).spells ts xs → (branch l nested c).spells (placed line c (token.Word (codes "else")) ∷ ts) (xs, [])
 unfolding branch either else_line blames_head else_headed after leading_word one_by else_from else_block else_rows both many
 else_spelled l nested c line ts xs h =
-    inl (placed line c (token.Word (codes "else")) ∷ [], ts, (line, codes "else"), refl, (placed line c (token.Word (codes "else")), refl, leads (is_else c (placed line c (token.Word (codes "else")))) line (codes "else") (else_is c line)),
-    inl (ts, [], xs, [], sym (append-nil ts), h, refl, refl))
+    inl (
+      placed line c (token.Word (codes "else")) ∷ [],
+      ts,
+      (line, codes "else"),
+      refl,
+      (placed line c (token.Word (codes "else")), refl, leads (is_else c (placed line c (token.Word (codes "else")))) line (codes "else") (else_is c line)),
+      inl (ts, [], xs, [], sym (append-nil ts), h, refl, refl),
+    )
 
 else_again : (l : Limits) (nested : Nested) (xs : List Stmt) → Each (StmtAgain l nested) xs → (line n : ℕ) → ElsePlaced l nested line n xs
 else_again l nested [] h line n = record { items = []; printed = printed_none line; spelled = no_else_spelled l nested (suc n) }
@@ -233,7 +239,7 @@ else_again l nested (x ∷ xs) h line n =
 
 -- ---- `when`
 
-when_lines : (line : ℕ) (cond : Expr) (taken other : List Stmt) (i : List Atom)
+pub when_lines : (line : ℕ) (cond : Expr) (taken other : List Stmt) (i : List Atom)
     → stmt_lines (stmt.When line cond taken other) i ≡ (i ++ (word (codes "when") ∷ space ∷ (expr_atoms cond ++ (space ∷ atoms.mark s.Colon ∷ [])))) ∷ (block_lines (map stmt_lines taken) (atoms.deeper i) ++ else_lines (map stmt_lines other) i)
 when_lines line cond taken other i = ap (λ x. stmt_lines x i) (sym (rolls-When line cond taken other)) ∙ ap (λ f. f i) (fold-roll-Stmt (List Atom → List Line) stmt_level (F.When line cond taken other))
 
@@ -314,9 +320,9 @@ when_built l nested cond x taken other h hx ht ho line n =
     let line_are : items_at line (at + 1) (expr_atoms cond ++ (space ∷ atoms.mark s.Colon ∷ [])) ≡ told ∷ (c.items ++ (colon ∷ [])) = c.are in
     let rest = c.items ++ (colon ∷ close ∷ (b.items ++ o.items)) in
     let are : (start ∷ row_items line at behind end) ++ (b.items ++ o.items) ≡ start ∷ told ∷ rest
-        = ap (λ z. start ∷ ((z ++ (close ∷ [])) ++ (b.items ++ o.items))) line_are ∙ ap (λ z. start ∷ told ∷ z) (joined_line c.items (b.items ++ o.items) colon close) in
+    = ap (λ z. start ∷ ((z ++ (close ∷ [])) ++ (b.items ++ o.items))) line_are ∙ ap (λ z. start ∷ told ∷ z) (joined_line c.items (b.items ++ o.items) colon close) in
     let whole = printed_both line (suc line) next ((spaces n ++ (word (codes "when") ∷ behind)) ∷ []) (blocks ++ others) (start ∷ row_items line at behind end) (b.items ++ o.items)
-        (printed_line line n (codes "when") behind) (printed_both (suc line) mid next blocks others b.items o.items (inside_printed (suc line) n (x ∷ taken) b.items mid b.printed) o.printed) in
+    (printed_line line n (codes "when") behind) (printed_both (suc line) mid next blocks others b.items o.items (inside_printed (suc line) n (x ∷ taken) b.items mid b.printed) o.printed) in
     record {
       rest = told ∷ rest;
       printed = subst (λ (z : List Item). Printed line ((spaces n ++ (word (codes "when") ∷ behind)) ∷ (blocks ++ others)) z next) are whole;

@@ -1,5 +1,5 @@
--- What is printed is spelled again, and it is the same circuit but for its lines.
-use Rattle.std.proofs.Common.{◌≡◌, ℕ, suc, ◌+◌, true, List, [], ◌∷◌, ◌++◌, map, refl, sym, ap, ◌∙◌, subst, inr}
+-- A circuit is spelled again as it is printed.
+use Rattle.std.proofs.Common.{◌≡◌, ℕ, ◌+◌, true, List, [], ◌∷◌, ◌++◌, map, refl, sym, subst, inr}
 use Rattle.std.specs.Prelude.{codes}
 use Rattle.std.specs.List.{flat_map, list_all}
 use Rattle.text_grammar.specs.declared.item.Item.{Item}
@@ -16,25 +16,19 @@ use Rattle.fir_ast.specs.Printed.{printed}
 use Rattle.fir_ast.specs.Circuits.{spells_circuit}
 use Rattle.fir_ast.specs.CircuitGrammar.{Nested, nested_within, block_limit, modules, version, preamble, circuit_word, make_circuit, titled, circuit_text, circuit_within, circuit}
 use Rattle.fir_ast.specs.declared.tree.Module.{Module}
-use Rattle.fir_ast.specs.declared.tree.Port.{Port}
 use Rattle.fir_ast.specs.declared.tree.Circuit.{Circuit}
-use Rattle.fir_ast.specs.declared.tree.Stmt.{Stmt}
-use Rattle.fir_ast.specs.declared.tree.Stmt.TheOpen.{Stmt-F, Wire, Node, Reg, Inst, Connect, Invalid, When, Skip, Verif}
-use Rattle.fir_ast.specs.declared.tree.Stmt.TheVariants as stmt
-use Rattle.fir_ast.specs.declared.tree.Stmt.TheVariants.{rolls-Wire, rolls-Node, rolls-Reg, rolls-Inst, rolls-Connect, rolls-Invalid, rolls-When, rolls-Skip, rolls-Verif}
-use Rattle.fir_ast.specs.declared.tree.Stmt.TheViews.{roll-Stmt}
-use Rattle.fir_ast.specs.declared.tree.Stmt.TheFolds.{fold-roll-Stmt, ind-Stmt, map-Stmt}
 use Rattle.fir_print_laws.specs.Atoms as atoms
 use Rattle.fir_print_laws.specs.Atoms.{space, word, module_lines, circuit_lines}
 use Rattle.fir_print_laws.specs.Items.{printed_items}
 use Rattle.fir_print_laws.specs.Printable.{module_fits, is_printable}
 use Rattle.fir_print_laws.proofs.LinePhrases.{printable_cut}
-use Rattle.fir_round.specs.Relined.{Placed, in_turn, behind_else, placed_level, stmt_placed, port_placed, module_placed, relined, unlined_level, stmt_unlined, port_unlined, module_unlined, SameButLines}
+use Rattle.fir_round.specs.Relined.{in_turn, module_placed, relined, SameButLines}
 use Rattle.fir_round.specs.Sound.{Sound}
 use Rattle.fir_round.specs.Again.{ItemsAreSound, ExprsAgain, RowsAgain, row_items}
 use Rattle.fir_round.proofs.Spaces.{printed_both, at_behind, end_of, printed_line, printed_all}
 use Rattle.fir_round.proofs.Keeps.{Keeps, Any, Each, both_keeps, after_keeps, either_keeps, nothing_keeps, blames_keeps, indented_keeps, dot_keeps, end_keeps, keyword_keeps, number_keeps, circuit_word_keeps}
 use Rattle.fir_round.proofs.Blocks.{NestedKeeps, nested_keeps}
+use Rattle.fir_round.proofs.Unlined.{only_lines}
 use Rattle.fir_round.proofs.Modules.{TitleAgain, ModuleAgain, ModulesHold, modules_keeps, modules_placed}
 
 -- ---- what is read
@@ -103,7 +97,7 @@ circuit_again l nested old w m ms h hm hs =
     let next = (in_turn (map module_placed (m ∷ ms)) 2).1 in
     let lines = (word (codes "circuit") ∷ rest) ∷ flat_map module_lines (m ∷ ms) in
     let whole = printed_all 1 next lines (start ∷ (front ++ all.items))
-        (printed_both 1 2 next ((word (codes "circuit") ∷ rest) ∷ []) (flat_map module_lines (m ∷ ms)) (start ∷ front) all.items (printed_line 1 0 (codes "circuit") rest) all.printed) in
+    (printed_both 1 2 next ((word (codes "circuit") ∷ rest) ∷ []) (flat_map module_lines (m ∷ ms)) (start ∷ front) all.items (printed_line 1 0 (codes "circuit") rest) all.printed) in
     record {
       fits = (let a = h.sound in let b = hm.fits in let d = all_fit l nested ms hs in rw (a, b, d) refl);
       spelled = subst (λ (z : List Item). (circuit_text l nested).spells z (relined (make_circuit old w (m ∷ ms)))) (sym whole)
@@ -132,67 +126,6 @@ printed_again items es rs text c h =
     let a = circuits_again items es rs text c h in
     subst (λ (z : List Item). circuit.spells z (relined c)) (sym (printable_cut c a.0)) a.1
 
--- ---- circuits that are equal but for their lines
-
-turn_same : {A B : Type 0} (f : A → Placed A) (g : A → B) → ((a : A) (line : ℕ) → g (f a line).0 ≡ g a) → (xs : List A) (line : ℕ) → map g (in_turn (map f xs) line).0 ≡ map g xs
-turn_same f g same [] line = refl
-turn_same f g same (x ∷ xs) line = ap (λ z. z ∷ map g (in_turn (map f xs) (f x line).1).0) (same x line) ∙ ap (λ z. g x ∷ z) (turn_same f g same xs (f x line).1)
-
-module _ (B : Type 0) (to : B → Stmt) (same : (b : B) (line : ℕ) → stmt_unlined (stmt_placed (to b) line).0 ≡ stmt_unlined (to b)) where
-  turn-blocks : (bs : List B) (line : ℕ) → map stmt_unlined (in_turn (map stmt_placed (map to bs)) line).0 ≡ map stmt_unlined (map to bs)
-  turn-blocks [] line = refl
-  turn-blocks (b ∷ bs) line =
-      ap (λ z. z ∷ map stmt_unlined (in_turn (map stmt_placed (map to bs)) (stmt_placed (to b) line).1).0) (same b line)
-      ∙ ap (λ z. stmt_unlined (to b) ∷ z) (turn-blocks bs (stmt_placed (to b) line).1)
-
-  else-blocks : (bs : List B) (line : ℕ) → map stmt_unlined (behind_else (map stmt_placed (map to bs)) line).0 ≡ map stmt_unlined (map to bs)
-  else-blocks [] line = refl
-  else-blocks (b ∷ bs) line = turn-blocks (b ∷ bs) (suc line)
-
--- the statement without its line
-unlined_roll : (x : Stmt-F Stmt) → stmt_unlined (roll-Stmt x) ≡ unlined_level (map-Stmt Stmt Stmt stmt_unlined x)
-unlined_roll x = fold-roll-Stmt Stmt unlined_level x
-
-abbrev IsSame : Stmt → Type 0
-IsSame x = (line : ℕ) → stmt_unlined (stmt_placed x line).0 ≡ stmt_unlined x
-
-abbrev With : Type 0
-With = (x : Stmt) × IsSame x
-
-abbrev given : With → Stmt
-given w = w.0
-
-rolled_same : (x : Stmt-F Stmt) (y : Stmt) → y ≡ roll-Stmt x → stmt_unlined y ≡ unlined_level (map-Stmt Stmt Stmt stmt_unlined x)
-rolled_same x y e = ap stmt_unlined e ∙ unlined_roll x
-
-level_same : (x : Stmt-F With) (line : ℕ) → stmt_unlined (placed_level (map-Stmt Stmt (Placed Stmt) stmt_placed (map-Stmt With Stmt given x)) line).0 ≡ unlined_level (map-Stmt Stmt Stmt stmt_unlined (map-Stmt With Stmt given x))
-level_same (Wire old name ty) line = rolled_same (Wire line name ty) _ (sym (rolls-Wire line name ty))
-level_same (Node old name value) line = rolled_same (Node line name value) _ (sym (rolls-Node line name value))
-level_same (Reg old name ty clock reset) line = rolled_same (Reg line name ty clock reset) _ (sym (rolls-Reg line name ty clock reset))
-level_same (Inst old name target) line = rolled_same (Inst line name target) _ (sym (rolls-Inst line name target))
-level_same (Connect old sink value) line = rolled_same (Connect line sink value) _ (sym (rolls-Connect line sink value))
-level_same (Invalid old sink) line = rolled_same (Invalid line sink) _ (sym (rolls-Invalid line sink))
-level_same (When old cond taken other) line =
-    let one = in_turn (map stmt_placed (map given taken)) (suc line) in
-    let two = behind_else (map stmt_placed (map given other)) one.1 in
-    rolled_same (When line cond one.0 two.0) _ (sym (rolls-When line cond one.0 two.0))
-    ∙ ap (λ z. stmt.When 0 cond z (map stmt_unlined two.0)) (turn-blocks With given (λ b i. b.1 i) taken (suc line))
-    ∙ ap (λ z. stmt.When 0 cond (map stmt_unlined (map given taken)) z) (else-blocks With given (λ b i. b.1 i) other one.1)
-level_same (Skip old) line = rolled_same (Skip line) _ (sym (rolls-Skip line))
-level_same (Verif old kind args code text label) line = rolled_same (Verif line kind args code text label) _ (sym (rolls-Verif line kind args code text label))
-
-pub stmt_same : (x : Stmt) (line : ℕ) → stmt_unlined (stmt_placed x line).0 ≡ stmt_unlined x
-stmt_same = ind-Stmt IsSame (λ x y is. subst (λ z. IsSame (roll-Stmt z)) is (λ line.
-    let z = map-Stmt With Stmt given y in
-    ap (λ f. stmt_unlined (f line).0) (fold-roll-Stmt (Placed Stmt) placed_level z) ∙ level_same y line ∙ sym (unlined_roll z)))
-
-module_same : (m : Module) (line : ℕ) → module_unlined (module_placed m line).0 ≡ module_unlined m
-module_same m line =
-    let ports = in_turn (map port_placed m.ports) (suc line) in
-    let body = in_turn (map stmt_placed m.body) ports.1 in
-    ap (λ (z : List Port). record { line = 0; name = m.name; ports = z; body = map stmt_unlined body.0 }) (turn_same port_placed port_unlined (λ p i. refl) m.ports (suc line))
-    ∙ ap (λ (z : List Stmt). record { line = 0; name = m.name; ports = map port_unlined m.ports; body = z }) (turn_same stmt_placed stmt_unlined stmt_same m.body ports.1)
-
-pub only_lines : (c : Circuit) → SameButLines c (relined c)
-unfolding SameButLines relined
-only_lines c = ap (λ (z : List Module). record { line = 0; name = c.name; modules = z }) (sym (turn_same module_placed module_unlined module_same c.modules 2))
+-- the whole round: what a text spells is printed and read as the same circuit but for its lines
+pub round : ItemsAreSound → ExprsAgain → RowsAgain → (text : List ℕ) (c : Circuit) → spells_circuit text c → spells_circuit (printed c) (relined c) × SameButLines c (relined c)
+round items es rs text c h = (printed_again items es rs text c h, only_lines c)
