@@ -1,7 +1,7 @@
 -- Parts whose values are as they should be where the items can be printed, and which leave no bracket open; once for each way to
 -- make a part.
 use Rattle.std.proofs.Common.{◌≡◌, ℕ, Bool, true, false, ◌==◌, List, [], ◌∷◌, ◌++◌, refl, sym, ap, ◌∙◌, subst, inl, inr}
-use Rattle.std.specs.Prelude.{◌&&◌, Option, Some, None}
+use Rattle.std.specs.Prelude.{Option, Some, None}
 use Rattle.text_grammar.specs.declared.item.Item.{Item}
 use Rattle.text_grammar.specs.declared.item.Symbol.{Symbol}
 use Rattle.text_grammar.specs.declared.item.Symbol.TheVariants as s
@@ -13,6 +13,7 @@ use Rattle.text_grammar.specs.Terminals.{code, token_is_symbol, token_is_word, t
 use Rattle.fir_ast.specs.Lines.{begins_line, line_word, head_if, leading_word, indented, SpellsFrom, many_from}
 use Rattle.fir_ast.specs.CircuitGrammar.{place_if, circuit_word}
 use Rattle.fir_print_laws.specs.Standing.{is_word_text}
+use Rattle.fir_print_laws.proofs.TreePhrases.{and_right}
 use Rattle.fir_round.specs.Sound.{SoundToken, Sound, symbol_after, token_after, open_after}
 use Rattle.fir_round.proofs.Splits.{sound_left, sound_right, open_after_both}
 
@@ -39,31 +40,33 @@ each_both Q (x ∷ xs) ys h k = (h.0, each_both Q xs ys h.1 k)
 pub keeps_to : {A : Type 0} (Q R : A → Type 0) (p : Part A) → ((a : A) → Q a → R a) → Keeps Q p → Keeps R p
 keeps_to Q R p go h = record { keeps = λ ts a sound sp. (let r = h.keeps ts a sound sp in (go a r.0, r.1)) }
 
--- one list behind another
-behind : {A B : Type 0} (P : A → Type 0) (Q : B → Type 0) (ts xs ys : List Item) (p : Part A) (q : Part B) (a : A) (b : B) → Keeps P p → Keeps Q q → Sound 0 ts → ts ≡ xs ++ ys → p.spells xs a → q.spells ys b
-    → P a × Q b × (open_after 0 ts ≡ 0)
-behind P Q ts xs ys p q a b h k sound e sp sq =
-    let all : Sound 0 (xs ++ ys) = subst (λ (z : List Item). Sound 0 z) e sound in
-    let one = h.keeps xs a (sound_left 0 xs ys all) sp in
-    let two = k.keeps ys b (subst (λ (d : ℕ). Sound d ys) one.1 (sound_right 0 xs ys all)) sq in
-    (one.0, two.0, ap (open_after 0) e ∙ open_after_both 0 xs ys ∙ ap (λ (d : ℕ). open_after d ys) one.1 ∙ two.1)
+-- one list of items behind another
+module _ (ts xs ys : List Item) (e : ts ≡ xs ++ ys) where
+  front_sound : Sound 0 ts → Sound 0 xs
+  front_sound h = sound_left 0 xs ys (subst (λ (z : List Item). Sound 0 z) e h)
+
+  rest_sound : Sound 0 ts → open_after 0 xs ≡ 0 → Sound 0 ys
+  rest_sound h level = subst (λ (d : ℕ). Sound d ys) level (sound_right 0 xs ys (subst (λ (z : List Item). Sound 0 z) e h))
+
+  both_level : open_after 0 xs ≡ 0 → open_after 0 ys ≡ 0 → open_after 0 ts ≡ 0
+  both_level level k = ap (open_after 0) e ∙ open_after_both 0 xs ys ∙ ap (λ (d : ℕ). open_after d ys) level ∙ k
 
 pub both_keeps : {A B C : Type 0} (P : A → Type 0) (Q : B → Type 0) (R : C → Type 0) (f : A → B → C) (p : Part A) (q : Part B) → Keeps P p → Keeps Q q → ((a : A) (b : B) → P a → Q b → R (f a b)) → Keeps R (both f p q)
 unfolding both
 both_keeps P Q R f p q h k go = record {
-  keeps = λ ts c sound sp. (let r = behind P Q ts sp.0 sp.1 p q sp.2 sp.3 h k sound sp.4 sp.5 sp.6 in (subst R (sym sp.7) (go sp.2 sp.3 r.0 r.1), r.2));
+  keeps = λ ts c sound sp.
+      let one = h.keeps sp.0 sp.2 (front_sound ts sp.0 sp.1 sp.4 sound) sp.5 in
+      let two = k.keeps sp.1 sp.3 (rest_sound ts sp.0 sp.1 sp.4 sound one.1) sp.6 in
+      (subst R (sym sp.7) (go sp.2 sp.3 one.0 two.0), both_level ts sp.0 sp.1 sp.4 one.1 two.1);
 }
 
 pub after_keeps : {A B : Type 0} (P : A → Type 0) (Q : B → Type 0) (p : Part A) (q : A → Part B) → Keeps P p → ((a : A) → P a → Keeps Q (q a)) → Keeps Q (after p q)
 unfolding after
 after_keeps P Q p q h k = record {
   keeps = λ ts b sound sp.
-      let xs = sp.0 in
-      let ys = sp.1 in
-      let all : Sound 0 (xs ++ ys) = subst (λ (z : List Item). Sound 0 z) sp.3 sound in
-      let one = h.keeps xs sp.2 (sound_left 0 xs ys all) sp.4 in
-      let two = (k sp.2 one.0).keeps ys b (subst (λ (d : ℕ). Sound d ys) one.1 (sound_right 0 xs ys all)) sp.5 in
-      (two.0, ap (open_after 0) sp.3 ∙ open_after_both 0 xs ys ∙ ap (λ (d : ℕ). open_after d ys) one.1 ∙ two.1);
+      let one = h.keeps sp.0 sp.2 (front_sound ts sp.0 sp.1 sp.3 sound) sp.4 in
+      let two = (k sp.2 one.0).keeps sp.1 b (rest_sound ts sp.0 sp.1 sp.3 sound one.1) sp.5 in
+      (two.0, both_level ts sp.0 sp.1 sp.3 one.1 two.1);
 }
 
 pub either_keeps : {A : Type 0} (Q : A → Type 0) (test : Item → Bool) (p q : Part A) → Keeps Q p → Keeps Q q → Keeps Q (either test p q)
@@ -98,12 +101,9 @@ module _ {A : Type 0} (Q : A → Type 0) (p : Part A) (h : Keeps Q p) where
   many_go : (all : List A) (ts : List Item) → Sound 0 ts → SpellsMany p.spells ts all → Each Q all × (open_after 0 ts ≡ 0)
   many_go [] ts sound sp = (tt, ap (open_after 0) sp)
   many_go (a ∷ more) ts sound sp =
-      let xs = sp.0 in
-      let ys = sp.1 in
-      let joined : Sound 0 (xs ++ ys) = subst (λ (z : List Item). Sound 0 z) sp.2 sound in
-      let one = h.keeps xs a (sound_left 0 xs ys joined) sp.3 in
-      let two = many_go more ys (subst (λ (d : ℕ). Sound d ys) one.1 (sound_right 0 xs ys joined)) sp.4 in
-      ((one.0, two.0), ap (open_after 0) sp.2 ∙ open_after_both 0 xs ys ∙ ap (λ (d : ℕ). open_after d ys) one.1 ∙ two.1)
+      let one = h.keeps sp.0 a (front_sound ts sp.0 sp.1 sp.2 sound) sp.3 in
+      let two = many_go more sp.1 (rest_sound ts sp.0 sp.1 sp.2 sound one.1) sp.4 in
+      ((one.0, two.0), both_level ts sp.0 sp.1 sp.2 one.1 two.1)
 
   pub many_keeps : (begins : Item → Bool) → Keeps (Each Q) (many begins p)
   unfolding many
@@ -113,12 +113,9 @@ module _ {S A : Type 0} (Q : A → Type 0) (p : S → Part A) (next : S → A �
   from_go : (all : List A) (s : S) (ts : List Item) → Sound 0 ts → SpellsFrom (λ z. (p z).spells) next s ts all → Each Q all × (open_after 0 ts ≡ 0)
   from_go [] s ts sound sp = (tt, ap (open_after 0) sp)
   from_go (a ∷ more) s ts sound sp =
-      let xs = sp.0 in
-      let ys = sp.1 in
-      let joined : Sound 0 (xs ++ ys) = subst (λ (z : List Item). Sound 0 z) sp.2 sound in
-      let one = (h s).keeps xs a (sound_left 0 xs ys joined) sp.3 in
-      let two = from_go more (next s a) ys (subst (λ (d : ℕ). Sound d ys) one.1 (sound_right 0 xs ys joined)) sp.4 in
-      ((one.0, two.0), ap (open_after 0) sp.2 ∙ open_after_both 0 xs ys ∙ ap (λ (d : ℕ). open_after d ys) one.1 ∙ two.1)
+      let one = (h s).keeps sp.0 a (front_sound ts sp.0 sp.1 sp.2 sound) sp.3 in
+      let two = from_go more (next s a) sp.1 (rest_sound ts sp.0 sp.1 sp.2 sound one.1) sp.4 in
+      ((one.0, two.0), both_level ts sp.0 sp.1 sp.2 one.1 two.1)
 
   pub from_keeps : (begins : Item → Bool) (s : S) → Keeps (Each Q) (many_from begins p next s)
   unfolding many_from
@@ -135,52 +132,38 @@ one_keeps Q why f go = record {
       (r.0, ap (open_after 0) sp.1 ∙ r.1);
 }
 
-and_right : (a b : Bool) → (a && b) ≡ true → b ≡ true
-and_right true b h = h
-and_right false b h = absurd cc
-
 so_true : (b : Bool) (a : Unit {0}) → if_so b ≡ Some a → b ≡ true
 so_true true a h = refl
 so_true false a h = absurd cc
 
-colon_level : (z : Symbol) → (code z == 12) ≡ true → symbol_after 0 z ≡ 0
-colon_level s.OpenParen h = absurd cc
-colon_level s.OpenBracket h = absurd cc
-colon_level s.OpenBrace h = absurd cc
-colon_level s.OpenEnumeration h = absurd cc
-colon_level _ h = refl
-
-dot_level : (z : Symbol) → (code z == 14) ≡ true → symbol_after 0 z ≡ 0
-dot_level s.OpenParen h = absurd cc
-dot_level s.OpenBracket h = absurd cc
-dot_level s.OpenBrace h = absurd cc
-dot_level s.OpenEnumeration h = absurd cc
-dot_level _ h = refl
-
-end_level : (z : Symbol) → (code z == 18) ≡ true → symbol_after 0 z ≡ 0
-end_level s.OpenParen h = absurd cc
-end_level s.OpenBracket h = absurd cc
-end_level s.OpenBrace h = absurd cc
-end_level s.OpenEnumeration h = absurd cc
-end_level _ h = refl
+-- a symbol that is no opening bracket, by its number
+level : (n : ℕ) → (code s.OpenParen == n) ≡ false → (code s.OpenBracket == n) ≡ false → (code s.OpenBrace == n) ≡ false → (code s.OpenEnumeration == n) ≡ false → (z : Symbol) → (code z == n) ≡ true → symbol_after 0 z ≡ 0
+level n a b c d s.OpenParen h = absurd cc
+level n a b c d s.OpenBracket h = absurd cc
+level n a b c d s.OpenBrace h = absurd cc
+level n a b c d s.OpenEnumeration h = absurd cc
+level n a b c d _ h = refl
 
 token_level : (n : ℕ) → ((z : Symbol) → (code z == n) ≡ true → symbol_after 0 z ≡ 0) → (t : Token) → token_is_symbol n t ≡ true → token_after 0 t ≡ 0
 token_level n go (token.Symbol z) h = go z h
 token_level n go _ h = refl
 
+mark_keeps : (a : Symbol) → ((z : Symbol) → (code z == code a) ≡ true → symbol_after 0 z ≡ 0) → Keeps Any (mark a)
+mark_keeps a go = one_keeps Any _ (λ x. if_so (is_symbol a x)) (λ x u e q. (tt, token_level (code a) go x.token (so_true (is_symbol a x) u e)))
+
+pub colon_keeps : Keeps Any (mark s.Colon)
+colon_keeps = mark_keeps s.Colon (level 12 refl refl refl refl)
+
+pub dot_keeps : Keeps Any (mark s.Dot)
+dot_keeps = mark_keeps s.Dot (level 14 refl refl refl refl)
+
+pub end_keeps : Keeps Any (mark s.LineEnd)
+end_keeps = mark_keeps s.LineEnd (level 18 refl refl refl refl)
+
 word_level : (text : List ℕ) (t : Token) → token_is_word text t ≡ true → token_after 0 t ≡ 0
 word_level text (token.Word w) h = refl
 word_level text (token.Symbol z) h = absurd cc
 word_level text _ h = refl
-
-pub colon_keeps : Keeps Any (mark s.Colon)
-colon_keeps = one_keeps Any _ (λ x. if_so (is_symbol s.Colon x)) (λ x a e q. (tt, token_level 12 colon_level x.token (so_true (is_symbol s.Colon x) a e)))
-
-pub dot_keeps : Keeps Any (mark s.Dot)
-dot_keeps = one_keeps Any _ (λ x. if_so (is_symbol s.Dot x)) (λ x a e q. (tt, token_level 14 dot_level x.token (so_true (is_symbol s.Dot x) a e)))
-
-pub end_keeps : Keeps Any (mark s.LineEnd)
-end_keeps = one_keeps Any _ (λ x. if_so (is_symbol s.LineEnd x)) (λ x a e q. (tt, token_level 18 end_level x.token (so_true (is_symbol s.LineEnd x) a e)))
 
 pub keyword_keeps : (text : List ℕ) → Keeps Any (keyword text)
 keyword_keeps text = one_keeps Any _ (λ x. if_so (is_word text x)) (λ x a e q. (tt, word_level text x.token (so_true (is_word text x) a e)))

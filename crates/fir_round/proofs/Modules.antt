@@ -25,7 +25,7 @@ use Rattle.fir_print_laws.specs.Printable.{stmt_fits, port_fits, module_fits}
 use Rattle.fir_round.specs.Relined.{in_turn, stmt_placed, port_placed, module_placed}
 use Rattle.fir_round.specs.Again.{PortAgain, ExprsAgain, RowsAgain, row_items}
 use Rattle.fir_round.proofs.Spaces.{spaces, Printed, printed_none, printed_both, at_behind, end_of, printed_line}
-use Rattle.fir_round.proofs.Keeps.{Keeps, Any, Each, both_keeps, after_keeps, either_keeps, pick_keeps, nothing_keeps, blames_keeps, indented_keeps, many_keeps, from_keeps, keyword_keeps, line_word_keeps, name_keeps, leading_keeps}
+use Rattle.fir_round.proofs.Keeps.{Keeps, Any, Each, each_both, both_keeps, after_keeps, either_keeps, pick_keeps, nothing_keeps, blames_keeps, indented_keeps, many_keeps, from_keeps, keyword_keeps, line_word_keeps, name_keeps, leading_keeps}
 use Rattle.fir_round.proofs.Blocks.{StmtAgain, RowsHold, NestedKeeps, each_row, pick_false, line_is, leads, else_row_keeps, else_rows_keeps, and_else_keeps, statement_keeps}
 
 -- ---- what is read
@@ -44,14 +44,10 @@ LineHolds l nested v = SomeHolds l v.0 × Each (StmtAgain l nested) v.1
 abbrev BodyHolds : Limits → Nested → Body → Type 0
 BodyHolds l nested b = Each (PortHolds l) b.0 × Each (StmtAgain l nested) b.1
 
-each_behind : {A : Type 0} (Q : A → Type 0) (xs ys : List A) → Each Q xs → Each Q ys → Each Q (xs ++ ys)
-each_behind Q [] ys h k = k
-each_behind Q (x ∷ xs) ys h k = (h.0, each_behind Q xs ys h.1 k)
-
 lines_hold : (l : Limits) (nested : Nested) (vs : List grammar.Line) → Each (LineHolds l nested) vs → BodyHolds l nested (all_lines vs)
 lines_hold l nested [] h = (tt, tt)
-lines_hold l nested ((Some p, more) ∷ vs) h = let b = lines_hold l nested vs h.1 in ((h.0.0, b.0), each_behind (StmtAgain l nested) more (all_lines vs).1 h.0.1 b.1)
-lines_hold l nested ((None, more) ∷ vs) h = let b = lines_hold l nested vs h.1 in (b.0, each_behind (StmtAgain l nested) more (all_lines vs).1 h.0.1 b.1)
+lines_hold l nested ((Some p, more) ∷ vs) h = let b = lines_hold l nested vs h.1 in ((h.0.0, b.0), each_both (StmtAgain l nested) more (all_lines vs).1 h.0.1 b.1)
+lines_hold l nested ((None, more) ∷ vs) h = let b = lines_hold l nested vs h.1 in (b.0, each_both (StmtAgain l nested) more (all_lines vs).1 h.0.1 b.1)
 
 module _ (l : Limits) (es : ExprsAgain) (rs : RowsAgain) (nested : Nested) (g : NestedKeeps l nested) where
   no_port_keeps : (p : Part Rows) → Keeps (RowsHold l nested) p → Keeps (LineHolds l nested) (no_port p)
