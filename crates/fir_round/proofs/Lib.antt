@@ -12,3 +12,10 @@ pub mod RowParts
 pub mod LineRows
 pub mod VerifyingRows
 pub mod RowsAgain
+pub mod Spaces
+pub mod Keeps
+pub mod Blocks
+pub mod Modules
+pub mod Unlined
+pub mod Whole
+pub mod Again

@@ -1,5 +1,5 @@
 -- What is spelled somewhere is spelled again as it is printed: of types, expressions and rows.
-use Rattle.std.specs.Prelude.{◌≡◌, ◌≤◌, ◌+◌, ◌||◌, ℕ, Bool, true, false, List, [], ◌∷◌, ◌++◌, Option, Some, None, codes}
+use Rattle.std.specs.Prelude.{◌≡◌, ◌≤◌, ◌+◌, ◌||◌, ℕ, Bool, true, false, List, [], ◌∷◌, ◌++◌, codes}
 use Rattle.std.specs.Str.{bytes_eq}
 use Rattle.text_grammar.specs.declared.item.Item.{Item}
 use Rattle.text_grammar.specs.declared.item.Symbol.TheVariants as s
@@ -18,7 +18,7 @@ use Rattle.fir_ast.specs.declared.tree.Expr.{Expr}
 use Rattle.fir_ast.specs.declared.tree.Expr.TheVariants as e
 use Rattle.fir_ast.specs.declared.tree.Port.{Port}
 use Rattle.fir_ast.specs.declared.tree.Stmt.{Stmt}
-use Rattle.fir_print_laws.specs.Atoms.{Atom, Line, space, word, mark, four, type_atoms, expr_atoms, direction_word, port_line, stmt_lines}
+use Rattle.fir_print_laws.specs.Atoms.{Atom, space, word, mark, four, type_atoms, expr_atoms, direction_word, port_line, stmt_lines}
 use Rattle.fir_print_laws.specs.Items.{items_at}
 use Rattle.fir_print_laws.specs.Standing.{is_word_text}
 use Rattle.fir_print_laws.specs.Printable.{type_words, type_depth, expr_words, expr_depth, port_fits, stmt_fits}

@@ -1,3 +1,4 @@
 pub mod Sound
 pub mod Relined
 pub mod Again
+pub mod Examples
