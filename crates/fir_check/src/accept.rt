@@ -154,8 +154,9 @@ fn first_break(alloc: Global, circuit: &Circuit) -> Result<Option<Break>, Memory
 
 /// Checks a circuit against the rules. It is given back as it is where it keeps them; else the least
 /// line that breaks one is told, with the first rule that this line breaks. `CheckFault::Memory`
-/// says that there wasn't enough memory. The time is linear in the circuit's size, but for the
-/// look-ups of fields, the comparisons of shapes, and cycles of instances.
+/// says that there wasn't enough memory. The time is linear in the circuit's size, but for these: a
+/// field is looked for among all of its bundle, a comparison of shapes takes time linear in the size
+/// of both types, and instances on cycles of modules may take a search each.
 pub fn check(alloc: Global, circuit: Circuit) -> Result<Checked, CheckFault>
     ensures kept { IfOk result (λ c. c ≡ circuit) }
     ensures rule { IfOk result (λ c. circuit_rule circuit ≡ None) }
