@@ -22,7 +22,7 @@ pub record At {X : Type 0} (p : X → Bool) (i j : ℕ) (xs : List X) : Type 0 w
   pub first : find p xs ≡ Some item
   pub passes : p item ≡ true
 
-at-position : {X : Type 0} (p : X → Bool) (i j : ℕ) (xs : List X) → position_from p i xs ≡ Some j → At p i j xs
+pub at-position : {X : Type 0} (p : X → Bool) (i j : ℕ) (xs : List X) → position_from p i xs ≡ Some j → At p i j xs
 at-position p i j [] e = cc
 at-position p i j (x ∷ xs) e = step (p x) refl (λ k. at-position p (i + 1) j xs k) e
   where

@@ -9,7 +9,7 @@ use Rattle.fir_check.specs.Scopes.{module_name}
 use Rattle.fir_check.specs.Places.{place, least}
 use Rattle.fir_check.specs.Tables.{number_named, with_name, NamesModules}
 use Rattle.fir_check.proofs.Least.{lower-least}
-use Rattle.fir_check.proofs.Tables.{names_of, repeated-next, with_modules, names_modules}
+use Rattle.fir_check.proofs.Tables.{names_of, repeated-next, with_items, names_modules}
 
 -- an item in front of others, noted first
 pub kept-places : {X : Type 0} (r : Rule) (line_of : X → ℕ) (b : Bool) (x : X) (rest : List X) (o : Option ℕ)
@@ -41,30 +41,30 @@ doubles_next name_of line_of x rest n table after o p is_new a e q =
 
 -- what is left of the modules, from the i-th
 pub record ModulesLeft (ms : List Module) (i : ℕ) (table : List (List ℕ × ℕ)) (best start : Option ℕ) : Type 0 where
-  pub named : with_modules i table (drop i ms) ≡ with_modules 0 [] ms
+  pub named : with_items module_name i table (drop i ms) ≡ with_items module_name 0 [] ms
   pub noted : least best (double_places module_name (λ m. m.line) table (drop i ms)) ≡ least start (map (place DoubleName) (map (λ m. m.line) (seconds module_name ms)))
 
 pub modules_next : (ms : List Module) (i : ℕ) (m : Module) (table after : List (List ℕ × ℕ)) (o p start : Option ℕ) (is_new : Bool)
     → i < length ms → m ≡ get_or ms i m
     → after ≡ with_name m.name i table → is_new ≡ is_none (number_named m.name table) → p ≡ least o (map (place DoubleName) (kept (not is_new) m.line []))
     → ModulesLeft ms i table o start → ModulesLeft ms (i + 1) after p start
-unfolding with_modules
+unfolding with_items
 modules_next ms i m table after o p start is_new h e a n q l =
     let d : drop i ms ≡ m ∷ drop (i + 1) ms = next_item ms i m h e in
     record {
-      named = ap (λ t. with_modules (i + 1) t (drop (i + 1) ms)) a ∙ ap (λ ys. with_modules i table ys) (sym d) ∙ l.named;
+      named = ap (λ t. with_items module_name (i + 1) t (drop (i + 1) ms)) a ∙ ap (λ ys. with_items module_name i table ys) (sym d) ∙ l.named;
       noted = doubles_next module_name (λ x. x.line) m (drop (i + 1) ms) i table after o p is_new a n q ∙ ap (λ ys. least o (double_places module_name (λ x. x.line) table ys)) (sym d) ∙ l.noted;
     }
 
 pub modules_end : (ms : List Module) (i : ℕ) (table : List (List ℕ × ℕ)) (best start : Option ℕ) → length ms ≤ i → ModulesLeft ms i table best start
     → (NamesModules ms table) × (best ≡ least start (map (place DoubleName) (map (λ m. m.line) (seconds module_name ms))))
-unfolding with_modules
+unfolding with_items
 modules_end ms i table best start h l =
     let d : drop i ms ≡ [] = drop_all i ms h in
-    (names_modules ms table (ap (λ ys. with_modules i table ys) (sym d) ∙ l.named), ap (λ ys. least best (double_places module_name (λ m. m.line) table ys)) (sym d) ∙ l.noted)
+    (names_modules ms table (ap (λ ys. with_items module_name i table ys) (sym d) ∙ l.named), ap (λ ys. least best (double_places module_name (λ m. m.line) table ys)) (sym d) ∙ l.noted)
 
 pub modules_start : (ms : List Module) (table : List (List ℕ × ℕ)) (start : Option ℕ) → table ≡ [] → ModulesLeft ms 0 table start start
 modules_start ms table start e = record {
-  named = ap (λ t. with_modules 0 t ms) e;
+  named = ap (λ t. with_items module_name 0 t ms) e;
   noted = ap (λ t. least start (double_places module_name (λ m. m.line) t ms)) e;
 }

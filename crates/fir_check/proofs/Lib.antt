@@ -26,3 +26,4 @@ pub mod Names
 pub mod Repeats
 pub mod Scoping
 pub mod Judging
+pub mod Ranks

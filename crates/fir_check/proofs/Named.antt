@@ -1,15 +1,19 @@
--- The module of a name, by the number that a table gives it.
-use Rattle.std.proofs.Common.{ℕ, ◌≡◌, ◌+◌, ◌<◌, Bool, true, false, cond, None, Some, option_map, List, [], ◌∷◌, length, map, get_or, refl, sym, ap, ◌∙◌, subst}
+-- The module of a name and the field of a name, by the number that a table gives it.
+use Rattle.std.proofs.Common.{ℕ, ◌≡◌, ◌+◌, ◌<◌, Bool, true, false, cond, None, Some, option_map, List, [], ◌∷◌, length, map, get_or, refl, sym, ap, ◌∙◌, subst, zero-add}
 use Rattle.std.specs.Prelude.{find, bytes_eq}
 use Rattle.std.specs.List.{position_from}
 use Rattle.fir_ast.specs.declared.tree.Ty.{Ty}
+use Rattle.fir_ast.specs.declared.tree.Field.{Field}
 use Rattle.fir_ast.specs.declared.tree.Module.{Module}
 use Rattle.std.proofs.lemmas.Option.{slice_get-get_or}
 use Rattle.fir_check.specs.declared.thing.Flow.TheVariants.{Source}
 use Rattle.fir_check.specs.Scopes.{Thing, instance_thing, module_named, ports_type}
-use Rattle.fir_check.specs.Tables.{number_named, NamesModules}
-use Rattle.fir_check.proofs.ByNumber.{ByName, by_name}
-use Rattle.fir_check.proofs.Names.{map_at, map_length}
+use Rattle.fir_check.specs.Types.{Slot}
+use Rattle.fir_check.specs.Fields.{field_name, named_slot}
+use Rattle.fir_check.specs.Tables.{number_named, NamesModules, NamesFields}
+use Rattle.fir_check.proofs.ByNumber.{At, at-position, ByName, by_name}
+use Rattle.fir_check.proofs.Names.{map_at, map_length, find_map}
+use Rattle.fir_check.proofs.Shapes.{slot_of}
 
 not_found : {X : Type 0} (p : X → Bool) (i : ℕ) (xs : List X) → position_from p i xs ≡ None → find p xs ≡ None
 not_found p i [] e = refl
@@ -43,3 +47,36 @@ instance_at modules table types q k d x n t e i =
     let b : ByName modules table k q = by_name modules table q k n e in
     ap Some (i ∙ ap (λ y. record { ty = y; flow = Source; whole = true }) (ap (λ y. get_or y k d) t ∙ map_at ports_type modules k b.home d b.by.low b.by.is))
     ∙ ap (option_map instance_thing) (sym b.by.named ∙ ap (λ y. module_named y modules) b.name)
+
+-- the field of a name, by the number that a table gives it
+
+pub field_none : (fields : List Field) (table : List (List ℕ × ℕ)) (q : List ℕ) → NamesFields fields table → number_named q table ≡ None → named_slot q fields ≡ None
+field_none fields table q n e =
+    find_map (λ (s : Slot Ty). bytes_eq s.name q) slot_of fields
+    ∙ ap (option_map slot_of) (not_found (λ f. bytes_eq (field_name f) q) 0 fields (sym (n.each q) ∙ e))
+
+record FieldAt (fields : List Field) (q : List ℕ) (k : ℕ) : Type 0 where
+  low : k < length fields
+  item : Field
+  is : item ≡ get_or fields k item
+  first : named_slot q fields ≡ Some (slot_of item)
+
+field-at : (fields : List Field) (table : List (List ℕ × ℕ)) (q : List ℕ) (k : ℕ) → NamesFields fields table → number_named q table ≡ Some k → FieldAt fields q k
+field-at fields table q k n e =
+    let a : At (λ f. bytes_eq (field_name f) q) 0 k fields = at-position (λ f. bytes_eq (field_name f) q) 0 k fields (sym (n.each q) ∙ e) in
+    let z : a.past ≡ k = sym (zero-add a.past) ∙ sym a.place in
+    record {
+      low = subst (λ x. x < length fields) z a.low;
+      item = a.item;
+      is = a.is ∙ ap (λ x. get_or fields x a.item) z;
+      first = find_map (λ (s : Slot Ty). bytes_eq s.name q) slot_of fields ∙ ap (option_map slot_of) a.first;
+    }
+
+pub field_low : (fields : List Field) (table : List (List ℕ × ℕ)) (q : List ℕ) (k : ℕ) → NamesFields fields table → number_named q table ≡ Some k → k < length fields
+field_low fields table q k n e = (field-at fields table q k n e).low
+
+pub field_at : (fields : List Field) (table : List (List ℕ × ℕ)) (q : List ℕ) (k : ℕ) (d : Field) → NamesFields fields table → number_named q table ≡ Some k
+    → Some (slot_of (get_or fields k d)) ≡ named_slot q fields
+field_at fields table q k d n e =
+    let f : FieldAt fields q k = field-at fields table q k n e in
+    ap (option_map slot_of) (sym (slice_get-get_or fields k d f.low) ∙ slice_get-get_or fields k f.item f.low ∙ ap Some (sym f.is)) ∙ sym f.first

@@ -75,7 +75,7 @@ unfoldable pub passing : {X : Type 0} → (X → Bool) → List X → ℕ
 passing f [] = 0
 passing f (x ∷ xs) = cond (f x) 1 0 + passing f xs
 
-passing-length : {X : Type 0} (f : X → Bool) (xs : List X) → passing f xs ≤ length xs
+pub passing-length : {X : Type 0} (f : X → Bool) (xs : List X) → passing f xs ≤ length xs
 unfolding passing
 passing-length f [] = omega arith
 passing-length f (x ∷ xs) = step (f x) (passing-length f xs)
@@ -119,6 +119,14 @@ same-found f g test (y ∷ xs) x s e = step (λ k. same-found f g test xs x s.1 
     step : (find test xs ≡ Some x → (f x ≡ g x) × (test x ≡ true)) → (b : Bool) → test y ≡ b → cond b (Some y) (find test xs) ≡ Some x → (f x ≡ g x) × (test x ≡ true)
     step r true t k = let w : y ≡ x = cc in (ap f (sym w) ∙ s.0 ∙ ap g w, ap test (sym w) ∙ t)
     step r false t k = r k
+
+-- a test that becomes true of some item
+pub passing-fewer : {X : Type 0} (f g : X → Bool) (test : X → Bool) (xs : List X) (x : X) → ((y : X) → f y ≡ true → g y ≡ true) → find test xs ≡ Some x → f x ≡ false → g x ≡ true → passing f xs < passing g xs
+passing-fewer f g test xs x h e p q = step (nat_le (passing g xs) (passing f xs)) refl
+  where
+    step : (b : Bool) → nat_le (passing g xs) (passing f xs) ≡ b → passing f xs < passing g xs
+    step true k = let w : f x ≡ g x = (same-found f g test xs x (passing-same f g xs h (leb-true _ _ k)) e).0 in cc
+    step false k = leb-false _ _ k
 
 -- where a further depth adds no module, it adds nothing
 settled-by : (modules : List Module) (inner : List ℕ) (n : ℕ) → SameOn (λ m. contains n modules m.name inner) (λ m. contains (suc n) modules m.name inner) modules → Settled modules inner n

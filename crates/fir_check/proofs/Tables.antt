@@ -1,6 +1,7 @@
 -- Tables of names, and items whose name came before.
-use Rattle.std.proofs.Common.{ℕ, ◌≡◌, ◌+◌, Bool, true, false, cond, ◌||◌, Option, Some, None, is_some, List, [], ◌∷◌, ◌++◌, map, bytes_eq, nat_eq, refl, sym, ap, ◌∙◌, Result, Ok, Err, OnOk, is_err}
+use Rattle.std.proofs.Common.{ℕ, suc, ◌≡◌, ◌+◌, ◌<◌, ◌≤◌, Bool, true, false, cond, ◌||◌, Option, Some, None, is_some, List, [], ◌∷◌, ◌++◌, map, length, drop, get_or, bytes_eq, nat_eq, refl, sym, ap, ◌∙◌, add-one, drop-cons, Result, Ok, Err, OnOk, is_err}
 use Rattle.std.specs.List.{position_from}
+use Rattle.std.proofs.lemmas.List.{drop_all}
 use Rattle.std.proofs.lemmas.Slice.Eq.{bytes_eq-Decides}
 use Rattle.indexmap.specs.IndexMap.{insert_entry}
 use Rattle.std.specs.declared.vec.Vec.{Vec}
@@ -8,8 +9,11 @@ use Rattle.std.specs.declared.alloc.Global.{Global}
 use Rattle.std.specs.Map.{lookup}
 use Rattle.std.specs.Cmp.Lexicographic.{pointwise}
 use Rattle.fir_ast.specs.declared.tree.Module.{Module}
+use Rattle.fir_ast.specs.declared.tree.Field.{Field}
 use Rattle.fir_check.specs.Names.{is_among, kept, repeated}
-use Rattle.fir_check.specs.Tables.{entries_seen, number_named, with_name, NamesModules}
+use Rattle.fir_check.specs.Fields.{field_name}
+use Rattle.fir_check.specs.Scopes.{module_name}
+use Rattle.fir_check.specs.Tables.{entries_seen, number_named, with_name, NamesModules, NamesFields}
 
 -- tests on names
 
@@ -114,11 +118,11 @@ repeated-next name_of i items n table =
           ap (λ b. bytes_eq (name_of i) q || b) (among_names q table) ∙ sym (named-added q (name_of i) n table) ∙ sym (among_names q (with_name (name_of i) n table));
     }))
 
--- the table of a list of modules
+-- the table of a list of items
 
-unfoldable pub with_modules : ℕ → List (List ℕ × ℕ) → List Module → List (List ℕ × ℕ)
-with_modules n table [] = table
-with_modules n table (m ∷ ms) = with_modules (n + 1) (with_name m.name n table) ms
+unfoldable pub with_items : {X : Type 0} → (X → List ℕ) → ℕ → List (List ℕ × ℕ) → List X → List (List ℕ × ℕ)
+with_items name_of n table [] = table
+with_items name_of n table (x ∷ xs) = with_items name_of (n + 1) (with_name (name_of x) n table) xs
 
 abbrev or_else : Option ℕ → Option ℕ → Option ℕ
 or_else None p = p
@@ -151,22 +155,42 @@ number-added q name n table = step (is_some (number_named name table)) refl
     step true h = there h (bytes_eq name q) refl
     step false h = number-last q name n table
 
-number-modules : (q : List ℕ) (n : ℕ) (table : List (List ℕ × ℕ)) (ms : List Module) → number_named q (with_modules n table ms) ≡ or_else (number_named q table) (position_from (λ m. bytes_eq m.name q) n ms)
-unfolding with_modules
-number-modules q n table [] = none (number_named q table)
+number-items : {X : Type 0} (name_of : X → List ℕ) (q : List ℕ) (n : ℕ) (table : List (List ℕ × ℕ)) (xs : List X) → number_named q (with_items name_of n table xs) ≡ or_else (number_named q table) (position_from (λ x. bytes_eq (name_of x) q) n xs)
+unfolding with_items
+number-items name_of q n table [] = none (number_named q table)
   where
     none : (o : Option ℕ) → o ≡ or_else o None
     none None = refl
     none (Some x) = refl
-number-modules q n table (m ∷ ms) =
-    number-modules q (n + 1) (with_name m.name n table) ms
-    ∙ ap (λ o. or_else o (position_from (λ x. bytes_eq x.name q) (n + 1) ms)) (number-added q m.name n table)
-    ∙ step (number_named q table) (bytes_eq m.name q) (position_from (λ x. bytes_eq x.name q) (n + 1) ms)
+number-items name_of q n table (x ∷ xs) =
+    number-items name_of q (n + 1) (with_name (name_of x) n table) xs
+    ∙ ap (λ o. or_else o (position_from (λ y. bytes_eq (name_of y) q) (n + 1) xs)) (number-added q (name_of x) n table)
+    ∙ step (number_named q table) (bytes_eq (name_of x) q) (position_from (λ y. bytes_eq (name_of y) q) (n + 1) xs)
   where
     step : (o : Option ℕ) (b : Bool) (p : Option ℕ) → or_else (or_else o (cond b (Some n) None)) p ≡ or_else o (cond b (Some n) p)
-    step (Some x) b p = refl
+    step (Some y) b p = refl
     step None true p = refl
     step None false p = refl
 
-pub names_modules : (ms : List Module) (table : List (List ℕ × ℕ)) → table ≡ with_modules 0 [] ms → NamesModules ms table
-names_modules ms table e = record { each = λ q. ap (number_named q) e ∙ number-modules q 0 [] ms }
+pub names_modules : (ms : List Module) (table : List (List ℕ × ℕ)) → table ≡ with_items module_name 0 [] ms → NamesModules ms table
+names_modules ms table e = record { each = λ q. ap (number_named q) e ∙ number-items module_name q 0 [] ms }
+
+-- what is left of the fields, from the i-th
+pub record FieldsLeft (fields : List Field) (i : ℕ) (table : List (List ℕ × ℕ)) : Type 0 where
+  pub named : with_items field_name i table (drop i fields) ≡ with_items field_name 0 [] fields
+
+pub fields_start : (fields : List Field) (table : List (List ℕ × ℕ)) → table ≡ [] → FieldsLeft fields 0 table
+fields_start fields table e = record { named = ap (λ t. with_items field_name 0 t fields) e }
+
+pub fields_next : (fields : List Field) (i : ℕ) (f : Field) (table after : List (List ℕ × ℕ)) (n : List ℕ) → i < length fields → f ≡ get_or fields i f → n ≡ field_name f → after ≡ with_name n i table → FieldsLeft fields i table → FieldsLeft fields (i + 1) after
+unfolding with_items
+fields_next fields i f table after n h e p a l = record {
+  named = ap (λ t. with_items field_name (i + 1) t (drop (i + 1) fields)) (a ∙ ap (λ m. with_name m i table) p)
+      ∙ ap (λ ys. with_items field_name i table ys) (sym (drop-cons fields i f h ∙ ap (λ y. y ∷ drop (suc i) fields) (sym e) ∙ ap (λ k. f ∷ drop k fields) (sym (add-one i)))) ∙ l.named;
+}
+
+pub fields_end : (fields : List Field) (i : ℕ) (table : List (List ℕ × ℕ)) → length fields ≤ i → FieldsLeft fields i table → NamesFields fields table
+unfolding with_items
+fields_end fields i table h l = record {
+  each = λ q. ap (number_named q) (ap (λ ys. with_items field_name i table ys) (sym (drop_all i fields h)) ∙ l.named) ∙ number-items field_name q 0 [] fields;
+}

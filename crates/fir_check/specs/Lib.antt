@@ -14,3 +14,4 @@ pub mod Faults
 pub mod Tables
 pub mod Instances
 pub mod Examples
+pub mod Ranks

@@ -4,6 +4,8 @@ use Rattle.std.specs.List.{position_from}
 use Rattle.std.specs.declared.vec.Vec.{Vec}
 use Rattle.std.specs.declared.alloc.Global.{Global}
 use Rattle.fir_ast.specs.declared.tree.Module.{Module}
+use Rattle.fir_ast.specs.declared.tree.Field.{Field}
+use Rattle.fir_check.specs.Fields.{field_name}
 
 -- what a contract sees of a map's entries
 abbrev pub entries_seen : List (Vec ℕ Global × ℕ) → List (List ℕ × ℕ)
@@ -21,6 +23,10 @@ with_name name number table = if is_some (number_named name table) then table el
 -- the table gives for each name the place of the first module that has it
 pub record NamesModules (modules : List Module) (table : List (List ℕ × ℕ)) : Type 0 where
   pub each : (name : List ℕ) → number_named name table ≡ position_from (λ m. bytes_eq m.name name) 0 modules
+
+-- the table gives for each name the place of the first field that has it
+pub record NamesFields (fields : List Field) (table : List (List ℕ × ℕ)) : Type 0 where
+  pub each : (name : List ℕ) → number_named name table ≡ position_from (λ f. bytes_eq (field_name f) name) 0 fields
 
 -- whether this is the number
 abbrev pub is_number : ℕ → Option ℕ → Bool

@@ -9,6 +9,7 @@ ghost use Rattle.fir_check.specs.Tables.{NamesModules};
 ghost use Rattle.fir_check.specs.Walking.{all_body_breaks};
 
 use crate::best::{Best, Break, Rule, least_place_decides};
+use crate::checked::Checked;
 use crate::cycles::note_cycles;
 use crate::instance_types::instance_types;
 use crate::main_module::missing_main;
@@ -22,21 +23,6 @@ use fir_ast::{Circuit, Module, Ty};
 use std::alloc::Global;
 use tb_base::Memory;
 use thiserror::Error;
-
-/// A circuit that keeps the rules.
-#[derive(Drop)]
-pub struct Checked {
-    circuit: Circuit,
-}
-
-impl Checked {
-    /// The circuit.
-    pub fn circuit(&self) -> &Circuit
-        ensures { result.now ≡ self.now.circuit }
-    {
-        &self.circuit
-    }
-}
 
 /// Why a circuit isn't accepted. Each but the last has the least line that breaks a rule, and is the
 /// first of the rules that this line breaks.
@@ -168,15 +154,16 @@ fn first_break(alloc: Global, circuit: &Circuit) -> Result<Option<Break>, Memory
 
 /// Checks a circuit against the rules. It is given back as it is where it keeps them; else the least
 /// line that breaks one is told, with the first rule that this line breaks. `CheckFault::Memory`
-/// says that there wasn't enough memory. The time is linear in the circuit's size, but for the
-/// look-ups of fields, the comparisons of shapes, and cycles of instances.
+/// says that there wasn't enough memory. The time is linear in the circuit's size, but for these: a
+/// field is looked for among all of its bundle, a comparison of shapes takes time linear in the size
+/// of both types, and instances on cycles of modules may take a search each.
 pub fn check(alloc: Global, circuit: Circuit) -> Result<Checked, CheckFault>
-    ensures kept { IfOk result (λ c. c.circuit ≡ circuit) }
+    ensures kept { IfOk result (λ c. c ≡ circuit) }
     ensures rule { IfOk result (λ c. circuit_rule circuit ≡ None) }
     ensures broken { IfErr result (λ e. Tells (circuit_rule circuit) e) }
 {
     match first_break(alloc, &circuit)? {
-        None => Ok(Checked { circuit }),
+        None => Ok(Checked::of(circuit)),
         Some(found) => Err(fault_of(found)),
     }
 }

@@ -18,6 +18,7 @@ use crate::thing::{
 };
 use crate::types::is_bundle;
 use fir_ast::Expr;
+use std::alloc::Global;
 use tb_base::Op;
 
 /// What an expression stands for, and which rules some level of it breaks.
@@ -35,32 +36,42 @@ pub struct Judgement<'a> {
 
 /// Judges an expression where a statement stands. The time is linear in the size of the expression,
 /// but for the look-ups of fields and the comparisons of the branches of a mux.
-pub fn judge<'a>(numbers: &'a NumberTypes, scope: &Scope<'a>, expr: &Expr) -> Judgement<'a>
+pub fn judge<'a>(
+    alloc: Global,
+    numbers: &'a NumberTypes,
+    scope: &Scope<'a>,
+    expr: &Expr,
+) -> Judgement<'a>
     ensures meaning { option_map meant result.meaning ≡ meaning_of scope.now expr.now }
     ensures unknown { result.unknown ≡ somewhere unknown_level scope.now expr.now }
     ensures wrong { result.wrong ≡ somewhere wrong_level scope.now expr.now }
     ensures clock { result.clock ≡ somewhere clock_level scope.now expr.now }
 {
-    judge_expr(numbers, scope, expr)
+    judge_expr(alloc, numbers, scope, expr)
 }
 
 #[cycle(judge)]
-fn judge_expr<'a>(numbers: &'a NumberTypes, scope: &Scope<'a>, expr: &Expr) -> Judgement<'a>
+fn judge_expr<'a>(
+    alloc: Global,
+    numbers: &'a NumberTypes,
+    scope: &Scope<'a>,
+    expr: &Expr,
+) -> Judgement<'a>
     ensures { Judges scope.now expr.now result }
 {
     match expr {
         Expr::Ident(name) => judge_name(scope, name.bytes()),
         Expr::Part(of, name) => {
-            let of = judge_expr(numbers, scope, of.get());
+            let of = judge_expr(alloc, numbers, scope, of.get());
             judge_part(of, name.bytes())
         }
         Expr::At(of, at) => {
-            let of = judge_expr(numbers, scope, of.get());
+            let of = judge_expr(alloc, numbers, scope, of.get());
             judge_at(of, *at)
         }
         Expr::Index(of, at) => {
-            let of = judge_expr(numbers, scope, of.get());
-            let at = judge_expr(numbers, scope, at.get());
+            let of = judge_expr(alloc, numbers, scope, of.get());
+            let at = judge_expr(alloc, numbers, scope, at.get());
             judge_index(of, at)
         }
         Expr::Lit {
@@ -70,8 +81,8 @@ fn judge_expr<'a>(numbers: &'a NumberTypes, scope: &Scope<'a>, expr: &Expr) -> J
             magnitude: _,
         } => unbroken(Some(Thing::new(numbers.of(*signed), Flow::Fixed))),
         Expr::Apply { op, args, nums: _ } => {
-            let operands = judge_operands(numbers, scope, args.as_slice());
-            judge_apply(numbers, *op, operands)
+            let operands = judge_operands(alloc, numbers, scope, args.as_slice());
+            judge_apply(alloc, numbers, *op, operands)
         }
     }
 }
@@ -209,7 +220,12 @@ fn chosen<'a>(is_here: bool, here: Option<Thing<'a>>, there: Option<Thing<'a>>) 
 }
 
 #[cycle(judge)]
-fn judge_operands<'a>(numbers: &'a NumberTypes, scope: &Scope<'a>, args: &[Expr]) -> Operands<'a>
+fn judge_operands<'a>(
+    alloc: Global,
+    numbers: &'a NumberTypes,
+    scope: &Scope<'a>,
+    args: &[Expr],
+) -> Operands<'a>
     ensures { Gathers scope.now args.now result }
 {
     let mut operands = Operands {
@@ -225,7 +241,7 @@ fn judge_operands<'a>(numbers: &'a NumberTypes, scope: &Scope<'a>, args: &[Expr]
     };
     let mut k = 0;
     while k < args.len() {
-        let next = judge_expr(numbers, scope, &args[k]);
+        let next = judge_expr(alloc, numbers, scope, &args[k]);
         operands = operands.with(k, next);
         k += 1;
     }
@@ -281,7 +297,7 @@ fn applied<'a>(numbers: &'a NumberTypes, op: Op, operands: Operands<'a>) -> Opti
 }
 
 /// Whether the operands are of the wrong kind.
-fn has_wrong_operands(op: Op, operands: Operands) -> bool
+fn has_wrong_operands(alloc: Global, op: Op, operands: Operands) -> bool
     ensures { result ≡ wrong_given op operands.entry }
 {
     match op {
@@ -289,7 +305,7 @@ fn has_wrong_operands(op: Op, operands: Operands) -> bool
             fails_condition(operands.first)
                 || fails_branch(operands.second)
                 || fails_branch(operands.third)
-                || differ(operands.second, operands.third)
+                || differ(alloc, operands.second, operands.third)
         }
         _ => {
             let x = is_signed_thing(operands.first);
@@ -300,7 +316,12 @@ fn has_wrong_operands(op: Op, operands: Operands) -> bool
     }
 }
 
-fn judge_apply<'a>(numbers: &'a NumberTypes, op: Op, operands: Operands<'a>) -> Judgement<'a>
+fn judge_apply<'a>(
+    alloc: Global,
+    numbers: &'a NumberTypes,
+    op: Op,
+    operands: Operands<'a>,
+) -> Judgement<'a>
     ensures meaning { meaning_seen result ≡ applied_given op (option_map meant operands.entry.first) (option_map meant operands.entry.second) }
     ensures unknown { result.unknown ≡ operands.entry.unknown }
     ensures wrong { result.wrong ≡ wrong_given op operands.entry || operands.entry.wrong }
@@ -309,7 +330,7 @@ fn judge_apply<'a>(numbers: &'a NumberTypes, op: Op, operands: Operands<'a>) -> 
     Judgement {
         meaning: applied(numbers, op, operands),
         unknown: operands.unknown,
-        wrong: has_wrong_operands(op, operands) || operands.wrong,
+        wrong: has_wrong_operands(alloc, op, operands) || operands.wrong,
         clock: (op == Op::Mux && operands.clocked) || operands.clock,
     }
 }

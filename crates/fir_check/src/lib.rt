@@ -2,12 +2,14 @@
 //!
 //! `specs/` has a definition for each rule: `Types` has types as the rules see them, `Scopes` what a
 //! name and an expression stand for at a statement, `Rules` the seven rules, each as the list of the
-//! lines that break it, and `circuit_rule`, the least of these lines with its rule.
+//! lines that break it, and `circuit_rule`, the least of these lines with its rule. `Ranks` has what a
+//! circuit that breaks no rule gives to the layers above: no module contains itself.
 #![tactic(auto)]
 
 mod accept;
 mod best;
 mod broken;
+mod checked;
 mod cycles;
 mod examples;
 mod exprs;
@@ -23,13 +25,16 @@ mod scope;
 mod sinks;
 mod statements;
 mod surroundings;
+#[cfg(test)]
+mod tests;
 mod thing;
 mod types;
 mod walk;
 mod ways;
 
-pub use accept::{CheckFault, Checked, check};
+pub use accept::{CheckFault, check};
 pub use best::{Best, Break, Rule, least_place_decides};
+pub use checked::{Checked, kept_circuits_are_ranked};
 pub use examples::{
     the_circuits_work_out, the_lines_work_out, the_operands_work_out, the_registers_work_out,
     the_shapes_work_out, the_statements_work_out,

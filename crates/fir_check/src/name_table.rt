@@ -1,12 +1,12 @@
 //! Tables of names.
-ghost use Rattle.std.specs.Prelude.{◌≡◌, [], is_none, map, OnOk, IfOk};
-ghost use Rattle.fir_check.specs.Tables.{number_named, with_name, NamesModules};
+ghost use Rattle.std.specs.Prelude.{◌≡◌, [], is_none, map, OnOk, IfOk, IfSome};
+ghost use Rattle.fir_check.specs.Tables.{number_named, with_name, NamesModules, NamesFields};
 ghost use Rattle.fir_check.specs.Names.{seconds};
 ghost use Rattle.fir_check.specs.Scopes.{module_name};
 ghost use Rattle.fir_check.specs.Places.{least, place};
 
 use crate::best::{Best, Rule};
-use fir_ast::Module;
+use fir_ast::{Field, Module};
 use indexmap::IndexMap;
 use std::alloc::Global;
 use std::marker::Model;
@@ -73,4 +73,23 @@ pub fn name_modules(alloc: Global, modules: &[Module], best: &mut Best) -> Resul
         best.note_if(!is_new, Rule::DoubleName, home.line);
     }
     Ok(table)
+}
+
+/// The fields of a bundle by their names: a name means the first field that has it.
+fn name_fields(alloc: Global, fields: &[Field]) -> Result<NameTable, Memory>
+    ensures { IfOk result (NamesFields fields.now) }
+{
+    let mut table = NameTable::new(alloc);
+    for (k, field) in fields.iter().enumerate() {
+        table.add(alloc, field.name.bytes(), k)?;
+    }
+    Ok(table)
+}
+
+/// The fields of a bundle by their names, `None` where there isn't enough memory for the table. Takes
+/// time and memory linear in the fields' names.
+pub fn table_of_fields(alloc: Global, fields: &[Field]) -> Option<NameTable>
+    ensures { IfSome result (NamesFields fields.now) }
+{
+    name_fields(alloc, fields).ok()
 }

@@ -83,7 +83,7 @@ fn tell_node<'a>(
     ensures names { OnOk result (scope.new ≡ names_behind around.entry.modules.now scope.old (Node 0 name.now value.now)) }
 {
     let is_old = scope.is_declared(name);
-    let value = judge(around.numbers, scope, value);
+    let value = judge(alloc, around.numbers, scope, value);
     scope.add(alloc, name, node_thing(value.meaning))?;
     Ok(Broken {
         double: is_old,
@@ -95,17 +95,18 @@ fn tell_node<'a>(
 }
 
 /// Whether it is known, and may not be the initial value of a register of this type.
-fn fails_init(ty: &Ty, init: Option<Thing>) -> bool
+fn fails_init(alloc: Global, ty: &Ty, init: Option<Thing>) -> bool
     ensures { result ≡ fails (λ i. is_value i && same_shape i.ty ty.now) (option_map meant init.entry) }
 {
     match init {
         None => false,
-        Some(init) => !(init.is_value() && same_shape(init.ty, ty)),
+        Some(init) => !(init.is_value() && same_shape(alloc, init.ty, ty)),
     }
 }
 
 /// The reset of a register of this type.
 fn tell_reset<'a>(
+    alloc: Global,
     around: Surroundings<'a>,
     ty: &Ty,
     reset: &'a Option<ResetPair>,
@@ -122,13 +123,13 @@ fn tell_reset<'a>(
             clocked: false,
         },
         Some(pair) => {
-            let signal = judge(around.numbers, scope, &pair.signal);
-            let init = judge(around.numbers, scope, &pair.init);
+            let signal = judge(alloc, around.numbers, scope, &pair.signal);
+            let init = judge(alloc, around.numbers, scope, &pair.init);
             Resets {
                 unknown: signal.unknown || init.unknown,
                 wrong: signal.wrong || init.wrong,
                 clock: signal.clock || init.clock,
-                unfit: fails_condition(signal.meaning) || fails_init(ty, init.meaning),
+                unfit: fails_condition(signal.meaning) || fails_init(alloc, ty, init.meaning),
                 clocked: fails_clockless(init.meaning),
             }
         }
@@ -150,9 +151,9 @@ fn tell_reg<'a>(
 {
     let is_old = scope.is_declared(name);
     let repeats = repeats_field(alloc, ty)?;
-    let clock = judge(around.numbers, scope, clock);
+    let clock = judge(alloc, around.numbers, scope, clock);
     scope.add(alloc, name, Some(Thing::new(ty, Flow::Free)))?;
-    let reset = tell_reset(around, ty, reset, scope);
+    let reset = tell_reset(alloc, around, ty, reset, scope);
     Ok(Broken {
         double: is_old || repeats,
         unknown: clock.unknown || reset.unknown,
@@ -249,6 +250,7 @@ fn tell_inst<'a>(
 
 /// A connect.
 fn tell_connect<'a>(
+    alloc: Global,
     around: Surroundings<'a>,
     sink: &'a Expr,
     value: &'a Expr,
@@ -256,23 +258,28 @@ fn tell_connect<'a>(
 ) -> Broken
     ensures { Told around.entry.modules.now around.entry.home.now scope.now (Connect 0 sink.now value.now) result }
 {
-    let sink = judge(around.numbers, scope, sink);
-    let value = judge(around.numbers, scope, value);
+    let sink = judge(alloc, around.numbers, scope, sink);
+    let value = judge(alloc, around.numbers, scope, value);
     Broken {
         double: false,
         unknown: sink.unknown || value.unknown,
         wrong: (sink.wrong || value.wrong)
-            || (fails_value(value.meaning) || differ(sink.meaning, value.meaning)),
+            || (fails_value(value.meaning) || differ(alloc, sink.meaning, value.meaning)),
         flow: fails_sink(sink.meaning) || fails_source(value.meaning),
         clock: sink.clock || value.clock,
     }
 }
 
 /// An invalidation.
-fn tell_invalid<'a>(around: Surroundings<'a>, sink: &'a Expr, scope: &Scope<'a>) -> Broken
+fn tell_invalid<'a>(
+    alloc: Global,
+    around: Surroundings<'a>,
+    sink: &'a Expr,
+    scope: &Scope<'a>,
+) -> Broken
     ensures { Told around.entry.modules.now around.entry.home.now scope.now (Invalid 0 sink.now) result }
 {
-    let sink = judge(around.numbers, scope, sink);
+    let sink = judge(alloc, around.numbers, scope, sink);
     Broken {
         double: false,
         unknown: sink.unknown,
@@ -283,10 +290,15 @@ fn tell_invalid<'a>(around: Surroundings<'a>, sink: &'a Expr, scope: &Scope<'a>)
 }
 
 /// The condition of a `when`.
-fn tell_when<'a>(around: Surroundings<'a>, cond: &'a Expr, scope: &Scope<'a>) -> Broken
+fn tell_when<'a>(
+    alloc: Global,
+    around: Surroundings<'a>,
+    cond: &'a Expr,
+    scope: &Scope<'a>,
+) -> Broken
     ensures { Told around.entry.modules.now around.entry.home.now scope.now (When 0 cond.now [] []) result }
 {
-    let cond = judge(around.numbers, scope, cond);
+    let cond = judge(alloc, around.numbers, scope, cond);
     Broken {
         double: false,
         unknown: cond.unknown,
@@ -327,6 +339,7 @@ fn with_arg(told: Args, k: usize, before: usize, next: Judgement) -> Args
 
 /// The expressions of a verification statement.
 fn tell_args<'a>(
+    alloc: Global,
     around: Surroundings<'a>,
     kind: VerifKind,
     args: &'a [Expr],
@@ -344,7 +357,7 @@ fn tell_args<'a>(
     };
     let mut k = 0;
     while k < args.len() {
-        let next = judge(around.numbers, scope, &args[k]);
+        let next = judge(alloc, around.numbers, scope, &args[k]);
         told = with_arg(told, k, before, next);
         k += 1;
     }
@@ -353,6 +366,7 @@ fn tell_args<'a>(
 
 /// A verification statement.
 fn tell_verif<'a>(
+    alloc: Global,
     around: Surroundings<'a>,
     kind: VerifKind,
     args: &'a [Expr],
@@ -360,7 +374,7 @@ fn tell_verif<'a>(
 ) -> Broken
     ensures { Told around.entry.modules.now around.entry.home.now scope.now (Verif 0 kind args.now 0 [] None) result }
 {
-    let told = tell_args(around, kind, args, scope);
+    let told = tell_args(alloc, around, kind, args, scope);
     Broken {
         double: false,
         unknown: told.unknown,
@@ -416,14 +430,14 @@ pub fn tell<'a>(
             line: _,
             sink,
             value,
-        } => Ok(tell_connect(around, sink, value, scope)),
-        Stmt::Invalid { line: _, sink } => Ok(tell_invalid(around, sink, scope)),
+        } => Ok(tell_connect(alloc, around, sink, value, scope)),
+        Stmt::Invalid { line: _, sink } => Ok(tell_invalid(alloc, around, sink, scope)),
         Stmt::When {
             line: _,
             cond,
             taken: _,
             other: _,
-        } => Ok(tell_when(around, cond, scope)),
+        } => Ok(tell_when(alloc, around, cond, scope)),
         Stmt::Skip { line: _ } => Ok(unbroken()),
         Stmt::Verif {
             line: _,
@@ -432,7 +446,7 @@ pub fn tell<'a>(
             code: _,
             text: _,
             label: _,
-        } => Ok(tell_verif(around, *kind, args.items(), scope)),
+        } => Ok(tell_verif(alloc, around, *kind, args.items(), scope)),
     }
 }
 

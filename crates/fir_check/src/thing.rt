@@ -11,6 +11,7 @@ use crate::types::{
     is_signed, is_uint, is_unsigned, same_shape, vector_of,
 };
 use fir_ast::Ty;
+use std::alloc::Global;
 
 /// How a part may be driven.
 #[derive(Clone, Copy)]
@@ -314,14 +315,14 @@ pub fn fails_element(meaning: Option<Thing>, at: u128) -> bool
 }
 
 /// Whether both are known, and have different shapes. The time is that of `same_shape`.
-pub fn differ(one: Option<Thing>, other: Option<Thing>) -> bool
+pub fn differ(alloc: Global, one: Option<Thing>, other: Option<Thing>) -> bool
     ensures { result ≡ differ (option_map meant one.entry) (option_map meant other.entry) }
 {
     match one {
         None => false,
         Some(one) => match other {
             None => false,
-            Some(other) => !same_shape(one.ty, other.ty),
+            Some(other) => !same_shape(alloc, one.ty, other.ty),
         },
     }
 }

@@ -2,13 +2,15 @@
 //!
 //! A field whose name an earlier field of its bundle has is passed over: the name means the first.
 //! Every function here goes along the nesting of the type, and takes no memory but where it says so.
-ghost use Rattle.std.specs.Prelude.{◌≡◌, ◌&&◌, true, not, option_map, map, IfOk};
+ghost use Rattle.std.specs.Prelude.{◌≡◌, ◌&&◌, true, not, option_map, map, IfOk, IfSome};
 ghost use Rattle.std.specs.List.{list_any};
 ghost use Rattle.fir_check.specs.Names.{is_among};
 ghost use Rattle.fir_check.specs.Types.{is_ground, is_clock, is_signed, is_uint, is_unsigned, is_bundle, field_named, vector_of, repeats_field, has_flip, holds_clock, same_shape, leaves};
 ghost use Rattle.fir_check.specs.Rules.{has_unsized_input};
+ghost use Rattle.fir_check.specs.Tables.{NamesFields};
 ghost use Rattle.fir_check.specs.Fields.{lent_slot, lent_pair, field_name, field_type, named_slot, first_fields, repeats_name, flips, is_wanted, has_wanted, have_matches, have_names, has_match, matches};
 
+use crate::name_table::{NameTable, table_of_fields};
 use fir_ast::{Field, Port, Ty};
 use indexmap::IndexSet;
 use std::alloc::Global;
@@ -88,6 +90,28 @@ fn first_named<'a>(name: &[u8], fields: &'a [Field]) -> Option<&'a Field>
         k += 1;
     }
     None
+}
+
+/// The field of a name, by the table of the fields' names. The time is that of a look-up.
+fn named_in_table<'a>(name: &[u8], fields: &'a [Field], table: &NameTable) -> Option<&'a Field>
+    requires { NamesFields fields.now table.now }
+    ensures { option_map lent_slot result ≡ named_slot name.now fields.now }
+{
+    match table.find(name) {
+        None => None,
+        Some(number) => Some(&fields[number]),
+    }
+}
+
+/// The field of a name, by the table of the fields' names where there is one.
+fn look_up<'a>(name: &[u8], fields: &'a [Field], table: &Option<NameTable>) -> Option<&'a Field>
+    requires { IfSome table.now (NamesFields fields.now) }
+    ensures { option_map lent_slot result ≡ named_slot name.now fields.now }
+{
+    match table {
+        None => first_named(name, fields),
+        Some(table) => named_in_table(name, fields, table),
+    }
 }
 
 /// Whether none of these fields has the name. The time is linear in their number.
@@ -274,11 +298,11 @@ pub fn has_unsized_input(port: &Port) -> bool
     has_leaf(&port.ty, !port.output, true)
 }
 
-/// Whether two types have one shape. The time is linear in the size of the types where bundles have
-/// their fields in the same order, and repeat none. Where the order is another, each field is looked
-/// for among all of the other bundle.
+/// Whether two types have one shape. The time is linear in the size of the types where bundles repeat
+/// no field; where their fields stand in another order, a table of their names is made. Where there
+/// isn't enough memory for one, each field is looked for among all of the other bundle.
 #[cycle(same_shape)]
-pub fn same_shape(ty: &Ty, other: &Ty) -> bool
+pub fn same_shape(alloc: Global, ty: &Ty, other: &Ty) -> bool
     ensures { result ≡ same_shape ty.now other.now }
 {
     match ty {
@@ -287,12 +311,12 @@ pub fn same_shape(ty: &Ty, other: &Ty) -> bool
         Ty::SInt(_) => is_signed(other),
         Ty::Clock => is_clock(other),
         Ty::Bundle(fields) => match other {
-            Ty::Bundle(others) => same_bundle(fields.as_slice(), others.as_slice()),
+            Ty::Bundle(others) => same_bundle(alloc, fields.as_slice(), others.as_slice()),
             _ => false,
         },
         Ty::Vector(of, len) => match other {
             Ty::Vector(other_of, other_len) => {
-                *len == *other_len && same_shape(of.get(), other_of.get())
+                *len == *other_len && same_shape(alloc, of.get(), other_of.get())
             }
             _ => false,
         },
@@ -300,13 +324,15 @@ pub fn same_shape(ty: &Ty, other: &Ty) -> bool
 }
 
 #[cycle(same_shape)]
-fn same_bundle(fields: &[Field], others: &[Field]) -> bool
+fn same_bundle(alloc: Global, fields: &[Field], others: &[Field]) -> bool
     ensures { result ≡ have_matches fields.now others.now && have_names others.now fields.now }
 {
     if in_one_order(fields, others) {
-        return same_in_order(fields, others);
+        return same_in_order(alloc, fields, others);
     }
-    same_by_name(fields, others) && names_of_all(fields, others)
+    let own_table = table_of_fields(alloc, fields);
+    let table = table_of_fields(alloc, others);
+    same_by_name(alloc, fields, others, &table) && names_of_all(fields, others, &own_table)
 }
 
 /// Whether the bundles have the same names in the same order.
@@ -326,14 +352,15 @@ fn in_one_order(fields: &[Field], others: &[Field]) -> bool
     true
 }
 
-/// Whether each of the bundle's names is one of the fields'.
-fn names_of_all(fields: &[Field], others: &[Field]) -> bool
+/// Whether each of the bundle's names is one of the fields', of which there is a table.
+fn names_of_all(fields: &[Field], others: &[Field], table: &Option<NameTable>) -> bool
+    requires { IfSome table.now (NamesFields fields.now) }
     ensures { result ≡ have_names others.now fields.now }
 {
     let mut k = 0;
     while k < others.len() {
         let other = &others[k];
-        if first_named(other.name.bytes(), fields).is_none() {
+        if look_up(other.name.bytes(), fields, table).is_none() {
             return false;
         }
         k += 1;
@@ -343,14 +370,14 @@ fn names_of_all(fields: &[Field], others: &[Field]) -> bool
 
 /// Whether each field matches that at its place.
 #[cycle(same_shape)]
-fn same_in_order(fields: &[Field], others: &[Field]) -> bool
+fn same_in_order(alloc: Global, fields: &[Field], others: &[Field]) -> bool
     requires { map field_name fields.now ≡ map field_name others.now }
     ensures { result ≡ have_matches fields.now others.now }
 {
     let mut k = 0;
     while k < fields.len() {
         let field = &fields[k];
-        let differs = !same_field(field, &others[k]);
+        let differs = !same_field(alloc, field, &others[k]);
         if counts(differs, field.name.bytes(), &fields[..k]) {
             return false;
         }
@@ -359,15 +386,21 @@ fn same_in_order(fields: &[Field], others: &[Field]) -> bool
     true
 }
 
-/// Whether each field matches that of its name.
+/// Whether each field matches that of its name among the others, of which there is a table.
 #[cycle(same_shape)]
-fn same_by_name(fields: &[Field], others: &[Field]) -> bool
+fn same_by_name(
+    alloc: Global,
+    fields: &[Field],
+    others: &[Field],
+    table: &Option<NameTable>,
+) -> bool
+    requires { IfSome table.now (NamesFields others.now) }
     ensures { result ≡ have_matches fields.now others.now }
 {
     let mut k = 0;
     while k < fields.len() {
         let field = &fields[k];
-        let differs = !has_match(field, others);
+        let differs = !has_match(alloc, field, others, table);
         if counts(differs, field.name.bytes(), &fields[..k]) {
             return false;
         }
@@ -377,19 +410,20 @@ fn same_by_name(fields: &[Field], others: &[Field]) -> bool
 }
 
 #[cycle(same_shape)]
-fn has_match(field: &Field, others: &[Field]) -> bool
+fn has_match(alloc: Global, field: &Field, others: &[Field], table: &Option<NameTable>) -> bool
+    requires { IfSome table.now (NamesFields others.now) }
     ensures { result ≡ has_match others.now field.now }
 {
-    match first_named(field.name.bytes(), others) {
+    match look_up(field.name.bytes(), others, table) {
         None => false,
-        Some(other) => same_field(field, other),
+        Some(other) => same_field(alloc, field, other),
     }
 }
 
 /// Whether both fields are flipped or neither is, and their types have one shape.
 #[cycle(same_shape)]
-fn same_field(field: &Field, other: &Field) -> bool
+fn same_field(alloc: Global, field: &Field, other: &Field) -> bool
     ensures { result ≡ matches field.now other.now }
 {
-    field.flip == other.flip && same_shape(&field.ty, &other.ty)
+    field.flip == other.flip && same_shape(alloc, &field.ty, &other.ty)
 }

@@ -32,13 +32,13 @@ same_in_order-returns t c = all_done field_name (has_match c.args.others.now) c.
 pub has_match-returns-in-None : goal.has_match-returns-in-None
 has_match-returns-in-None t c =
     sym (has_match_named c.args.others.now c.args.field.now
-    ∙ ap (found_is (matches_slot c.args.field.now)) (ap (λ n. named_slot n c.args.others.now) (sym c.bytes.ensures) ∙ sym c.first_named.ensures ∙ ap (option_map lent_slot) c.in-None.is))
+    ∙ ap (found_is (matches_slot c.args.field.now)) (ap (λ n. named_slot n c.args.others.now) (sym c.bytes.ensures) ∙ sym c.look_up.ensures ∙ ap (option_map lent_slot) c.in-None.is))
 
 pub has_match-returns-in-Some : goal.has_match-returns-in-Some
 has_match-returns-in-Some t c =
     c.same_field.ensures
     ∙ sym (has_match_named c.args.others.now c.args.field.now
-    ∙ ap (found_is (matches_slot c.args.field.now)) (ap (λ n. named_slot n c.args.others.now) (sym c.bytes.ensures) ∙ sym c.first_named.ensures ∙ ap (option_map lent_slot) c.in-Some.is))
+    ∙ ap (found_is (matches_slot c.args.field.now)) (ap (λ n. named_slot n c.args.others.now) (sym c.bytes.ensures) ∙ sym c.look_up.ensures ∙ ap (option_map lent_slot) c.in-Some.is))
 
 pub same_bundle-returns-then-in_one_order : goal.same_bundle-returns-then-in_one_order
 same_bundle-returns-then-in_one_order t c =
