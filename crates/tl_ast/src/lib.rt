@@ -1,0 +1,6 @@
+//! The tree of a test text.
+#![tactic(auto)]
+
+mod tree;
+
+pub use tree::{DriverKind, TestExpr, TestOp, TestStmt, TestText};
