@@ -7,9 +7,9 @@ use Rattle.net_core.specs.declared.tree.Ground.{Ground}
 use Rattle.net_core.specs.declared.tree.Ground.TheVariants.{Declare, Set, When}
 use Rattle.net_core.specs.declared.tree.Ground.TheFolds.{fold-roll-Ground, ind-Ground, map-Ground}
 use Rattle.net_core.specs.declared.tree.Ground.TheOpen as G
-use Rattle.net_core.specs.Body.{Body, done, declare, set, when, statement, level_body, block, body_of}
-use Rattle.net_core.specs.Widths.{Asked, sources, initial, connected}
-use Rattle.net_core.specs.WidthRules.{Use, uses, reset_uses, value_uses}
+use Rattle.net_core.specs.Body.{Body, done, statement, level_body, block, body_of}
+use Rattle.net_core.specs.Widths.{sources, initial, connected}
+use Rattle.net_core.specs.WidthRules.{uses, reset_uses, value_uses}
 use Rattle.net_core.proofs.Trees.{of_declare, of_set, of_when}
 
 -- what a body has is what its first statement has, and then what the others have

@@ -1,13 +1,13 @@
 -- Judgements by parts.
-use Rattle.std.proofs.Common.{◌≡◌, ◌∙◌, sym, ap, ℕ, zero, suc, ◌+◌, Bool, true, false, ◌||◌, ◌==◌, List, [], ◌∷◌, ◌++◌, map, length, get_or, take, max, cond, refl, ◌<◌, Option, arith}
+use Rattle.std.proofs.Common.{◌≡◌, ◌∙◌, sym, ap, ℕ, zero, suc, ◌+◌, Bool, true, false, ◌||◌, ◌==◌, List, [], ◌∷◌, ◌++◌, map, length, get_or, take, max, refl, ◌<◌, arith}
 use Rattle.std.proofs.Math.Dec.{eqb-zero-suc, eqb-suc-zero, eqb-suc-suc}
 use Rattle.std.proofs.lemmas.List.{take_more, length-take, length-map}
-use Rattle.std.specs.Prelude.{slice_index, slice_index_or, if◌then◌else◌}
+use Rattle.std.specs.Prelude.{slice_index, if◌then◌else◌}
 use Rattle.tb_base.specs.Row.{width_of, operand_count, number_count}
 use Rattle.tb_base.specs.declared.op.Op.{Op}
 use Rattle.tb_base.specs.declared.op.Op.TheVariants.{Add, Sub, Mul, Div, Rem, Lt, Leq, Gt, Geq, Eq, Neq, Pad, AsUInt, AsSInt, Shl, Shr, Dshl, Dshr, Cvt, Neg, Not, And, Or, Xor, Andr, Orr, Xorr, Cat, Bits, Head, Tail, Mux}
 use Rattle.net_core.specs.declared.tree.SignalInfo.{SignalInfo}
-use Rattle.net_core.specs.Shapes.{Shape, no_shape, shape_at, widths, greatest}
+use Rattle.net_core.specs.Shapes.{Shape, shape_at, widths, greatest}
 use Rattle.net_core.specs.Values.{any}
 use Rattle.net_core.specs.WidthRules.{Judged, judged, level_judged}
 use Rattle.net_core.specs.declared.tree.GroundExpr.{GroundExpr}

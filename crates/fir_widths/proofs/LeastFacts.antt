@@ -1,22 +1,20 @@
 -- What the solver finds is the least.
-use Rattle.std.proofs.Common.{◌≡◌, ◌∙◌, sym, ap, subst, ℕ, zero, suc, ◌+◌, ◌<◌, ◌≤◌, Bool, true, false, ◌||◌, is_none, List, [], ◌∷◌, ◌++◌, map, length, get_or, refl, arith, Option, Some, None, ⊎_elim, ◌⊎◌, cond, option_map, Err}
+use Rattle.std.proofs.Common.{◌≡◌, ◌∙◌, sym, ap, subst, ℕ, zero, suc, ◌<◌, ◌≤◌, true, false, List, [], ◌∷◌, ◌++◌, map, length, refl, arith, Option, Some, None, ⊎_elim, cond, option_map, Err}
 use Rattle.std.specs.Prelude.{slice_index, IsErrOf}
 use Rattle.std.specs.List.{All}
 use Rattle.std.proofs.lemmas.List.{length-map}
-use Rattle.std.proofs.lemmas.List.Elements.{All-nil, All-cons, All-head, All-tail, All-append, All-map}
+use Rattle.std.proofs.lemmas.List.Elements.{All-nil, All-cons, All-head, All-tail, All-map}
 use Rattle.std.proofs.lemmas.Bool.{cases_lt, cases_Bool}
 use Rattle.net_core.specs.declared.tree.Elab.{Elab}
 use Rattle.net_core.specs.declared.tree.SignalInfo.{SignalInfo}
-use Rattle.net_core.specs.declared.tree.GroundExpr.{GroundExpr}
-use Rattle.net_core.specs.declared.tree.GroundReset.{GroundReset}
-use Rattle.net_core.specs.Signals.{info, no_info, given_width}
+use Rattle.net_core.specs.Signals.{info, given_width}
 use Rattle.net_core.specs.Shapes.{shape}
-use Rattle.net_core.specs.Body.{Body, done, declare, set, when, body_of}
-use Rattle.net_core.specs.Widths.{Asked, sources, initial, connected, is_free, Meets, Below, IsLeast}
+use Rattle.net_core.specs.Body.{body_of}
+use Rattle.net_core.specs.Widths.{Asked, sources, is_free, Meets, Below, IsLeast}
 use Rattle.net_core.specs.WidthRules.{Use, uses, wide_signals, use_lines, is_wide, is_bad, least_line, lesser, first_rule, width_rule, WidthRule, too_wide, bad_range}
 use Rattle.fir_widths.specs.declared.gather.Asked.{Asked as CodeAsked}
 use Rattle.fir_widths.specs.Gathering.{asked_seen}
-use Rattle.fir_widths.specs.Raise.{Met, MeetsAll, Grows}
+use Rattle.fir_widths.specs.Raise.{MeetsAll, Grows}
 use Rattle.fir_widths.specs.Inferring.{start_width, lesser_of, fault_of}
 use Rattle.fir_widths.specs.declared.inference.WidthFault.{WidthFault}
 use Rattle.fir_widths.specs.declared.inference.WidthFault.TheVariants.{TooWide, BadRange}

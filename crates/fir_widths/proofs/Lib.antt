@@ -5,3 +5,6 @@ pub mod Rises
 pub mod Lines
 pub mod Setting
 pub mod LeastFacts
+pub mod Kept
+pub mod NodeFacts
+pub mod SizedFacts

@@ -1,6 +1,5 @@
 -- The least of lines, found one after the other.
-use Rattle.std.proofs.Common.{◌≡◌, ◌∙◌, sym, ap, ℕ, suc, ◌+◌, ◌<◌, min, Bool, true, false, List, [], ◌∷◌, map, length, get_or, drop, drop-cons, add-one, refl, arith, cond, Option, Some, None, nat_eq, ◌==◌}
-use Rattle.std.specs.List.{filter}
+use Rattle.std.proofs.Common.{◌≡◌, ◌∙◌, sym, ap, ℕ, ◌+◌, ◌<◌, min, Bool, true, false, List, [], ◌∷◌, length, get_or, drop, drop-cons, add-one, refl, arith, cond, Option, Some, None, ◌==◌}
 use Rattle.net_core.specs.declared.tree.SignalInfo.{SignalInfo}
 use Rattle.net_core.specs.WidthRules.{Use, wide_signals, least_line, lesser, use_lines}
 use Rattle.fir_widths.specs.declared.gather.Use.{Use as CodeUse}

@@ -1,12 +1,11 @@
 -- Widths that rise.
-use Rattle.std.proofs.Common.{ℕ, Bool, true, false, ◌≡◌, ◌+◌, ◌<◌, ◌≤◌, ◌&&◌, List, [], ◌∷◌, length, get_or, set, refl, arith, if◌then◌else◌, subst, sym, take, ap, ◌∙◌, zero, suc, nat_eq, nat_lt}
+use Rattle.std.proofs.Common.{ℕ, Bool, true, false, ◌≡◌, ◌+◌, ◌<◌, ◌≤◌, ◌&&◌, List, [], ◌∷◌, length, get_or, set, refl, arith, if◌then◌else◌, subst, sym, take, ap, ◌∙◌, zero, suc, nat_lt}
 use Rattle.std.proofs.lemmas.List.{take_all, length-set, get_or_default}
 use Rattle.std.proofs.lemmas.Grind.{common_steps}
 use Rattle.std.proofs.lemmas.List.Elements.{All-more}
 use borrow.Author.Tests.{ltb-true}
 use Rattle.std.proofs.lemmas.Bool.Decides.{nat_tests}
 use Rattle.std.proofs.lemmas.Bool.{both_ways}
-use Rattle.std.specs.List.{All}
 use Rattle.net_core.specs.declared.tree.SignalInfo.{SignalInfo}
 use Rattle.net_core.specs.Signals.{info}
 use Rattle.net_core.specs.Widths.{is_free, Below}

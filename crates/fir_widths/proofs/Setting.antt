@@ -1,5 +1,5 @@
 -- Widths set one after the other.
-use Rattle.std.proofs.Common.{◌≡◌, ◌∙◌, sym, ap, ℕ, zero, suc, ◌+◌, ◌<◌, List, [], ◌∷◌, length, get_or, set, drop, refl, arith, Some}
+use Rattle.std.proofs.Common.{◌≡◌, ◌∙◌, sym, ap, ℕ, zero, suc, ◌+◌, ◌<◌, List, [], ◌∷◌, length, get_or, set, drop, refl, arith}
 use Rattle.std.specs.Prelude.{slice_index}
 use Rattle.net_core.specs.declared.tree.SignalInfo.{SignalInfo}
 use Rattle.net_core.specs.Formed.{with_width, set_widths}
@@ -10,7 +10,7 @@ mixed zero is w = is
 mixed (suc k) [] w = []
 mixed (suc k) (i ∷ is) w = with_width i (slice_index w 0) ∷ mixed k is (drop 1 w)
 
-behind : (w : List ℕ) (k : ℕ) → slice_index (drop 1 w) k ≡ slice_index w (suc k)
+pub behind : (w : List ℕ) (k : ℕ) → slice_index (drop 1 w) k ≡ slice_index w (suc k)
 behind [] k = refl
 behind (n ∷ w) k = refl
 

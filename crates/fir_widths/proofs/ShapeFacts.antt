@@ -1,5 +1,5 @@
 -- Wider signals make wider expressions, and no expression is wider than 129.
-use Rattle.std.proofs.Common.{◌≡◌, ◌∙◌, sym, ap, subst, ℕ, zero, suc, ◌+◌, ◌-◌, ◌*◌, ◌^◌, ◌<◌, ◌≤◌, min, max, Bool, true, false, List, [], ◌∷◌, map, refl, arith, ⊎_elim, ◌⊎◌, inl, inr}
+use Rattle.std.proofs.Common.{◌≡◌, ◌∙◌, sym, ap, subst, ℕ, zero, suc, ◌+◌, ◌-◌, ◌^◌, ◌<◌, ◌≤◌, min, max, Bool, true, false, List, [], ◌∷◌, map, refl, arith, ◌⊎◌, inl, inr}
 use Rattle.std.specs.Prelude.{slice_index}
 use Rattle.std.proofs.lemmas.Nat.{pow_below}
 use Rattle.std.proofs.lemmas.Bool.{cases_eq}
@@ -11,8 +11,7 @@ use Rattle.net_core.specs.declared.tree.GroundExpr.{GroundExpr}
 use Rattle.net_core.specs.declared.tree.GroundExpr.TheFolds.{fold-roll-GroundExpr, ind-GroundExpr, map-GroundExpr}
 use Rattle.net_core.specs.declared.tree.GroundExpr.TheOpen as E
 use Rattle.net_core.specs.declared.tree.GroundExpr.TheViews.{roll-GroundExpr}
-use Rattle.net_core.specs.Signals.{info}
-use Rattle.net_core.specs.Shapes.{Shape, no_shape, shape_at, widths, greatest, level_shape, shape}
+use Rattle.net_core.specs.Shapes.{Shape, shape_at, widths, greatest, level_shape, shape}
 use Rattle.net_core.specs.Widths.{Below}
 use Rattle.net_core.specs.WidthRules.{Judged, judged, level_judged}
 use Rattle.fir_widths.proofs.JudgeFacts.{width_at_shape}

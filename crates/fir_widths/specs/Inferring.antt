@@ -1,5 +1,5 @@
 -- The steps of the inference.
-use Rattle.std.specs.Prelude.{ℕ, if◌then◌else◌, List, Option, Some, None}
+use Rattle.std.specs.Prelude.{ℕ, if◌then◌else◌, Option, Some, None}
 use Rattle.net_core.specs.declared.tree.SignalInfo.{SignalInfo}
 use Rattle.net_core.specs.Signals.{given_width}
 use Rattle.net_core.specs.Widths.{is_free}

@@ -1,8 +1,8 @@
 -- What is known of an expression from what is known of its parts.
-use Rattle.std.specs.Prelude.{ℕ, Bool, true, false, not, ◌&&◌, ◌||◌, ◌==◌, nat_lt, max, min, if◌then◌else◌, List, [], ◌∷◌, map, slice_index, Option, Some, None, unwrap_or}
+use Rattle.std.specs.Prelude.{ℕ, Bool, false, not, ◌&&◌, ◌||◌, ◌==◌, nat_lt, max, min, if◌then◌else◌, List, [], ◌∷◌, map, Option, Some, None, unwrap_or}
 use Rattle.tb_base.specs.Row.{in_range, row_signed, leading, width_of}
 use Rattle.tb_base.specs.declared.op.Op.{Op}
-use Rattle.net_core.specs.Shapes.{Shape, no_shape, shape_at, widths, greatest, literal_width}
+use Rattle.net_core.specs.Shapes.{Shape, shape_at, widths, greatest, literal_width}
 use Rattle.net_core.specs.Values.{any}
 use Rattle.fir_widths.specs.declared.shape.Judged.{Judged as CodeJudged}
 use Rattle.fir_widths.specs.declared.shape.Summary.{Summary}

@@ -3,7 +3,7 @@ ghost use Rattle.std.specs.Prelude.{◌≡◌, ℕ, ◌<◌, IfOk, Ok, OnOk, IsE
 ghost use Rattle.net_core.specs.Body.{body_of};
 ghost use Rattle.net_core.specs.Widths.{IsLeast, sources};
 ghost use Rattle.net_core.specs.WidthRules.{width_rule, wide_signals, least_line, first_rule, too_wide, bad_range, use_lines, is_wide, is_bad, uses};
-ghost use Rattle.net_core.specs.Formed.{with_widths, set_widths};
+ghost use Rattle.net_core.specs.Formed.{Formed, Sized, with_widths, set_widths};
 ghost use Rattle.fir_widths.specs.Gathering.{asked_seen, uses_seen};
 ghost use Rattle.fir_widths.specs.declared.inference.WidthFault;
 ghost use Rattle.fir_widths.specs.Inferring.{start_width, lesser_of, fault_of};
@@ -217,27 +217,40 @@ fn inferred(alloc: Global, elab: &Elab) -> Result<Vec<u8>, WidthFault>
     }
 }
 
-/// Gives each signal its least width.
-///
-/// The least widths are the least ones with which each signal whose width isn't written is at least as wide as the
-/// source of each connect to it, as its initial value where it is a register, and as its expression where it is a
-/// node. The circuit stays the same besides. `TooWide` and `BadRange` tell of the least line that breaks a rule under
-/// these widths; on one line `TooWide` comes first. A refused circuit is dropped.
-pub fn infer(alloc: Global, elab: Elab) -> Result<Elab, WidthFault>
-    ensures ok { IfOk result (λ e. (w : List ℕ) × IsLeast elab w × (width_rule elab w ≡ None) × (e ≡ with_widths elab w)) }
-    ensures wide { (line : ℕ) → IsErrOf result (WidthFault.TooWide line) → (w : List ℕ) × IsLeast elab w × (width_rule elab w ≡ Some (too_wide line)) }
-    ensures bad { (line : ℕ) → IsErrOf result (WidthFault.BadRange line) → (w : List ℕ) × IsLeast elab w × (width_rule elab w ≡ Some (bad_range line)) }
+/// The same circuit, with these widths.
+fn with_its_widths(elab: Elab, widths: &[u8]) -> Elab
+    ensures { result ≡ with_widths elab widths.now }
 {
-    let widths = inferred(alloc, &elab)?;
     let Elab {
         name,
         signals,
         body,
     } = elab;
-    let signals = with_all_widths(signals.into_vec(), &widths);
-    Ok(Elab {
+    let signals = with_all_widths(signals.into_vec(), widths);
+    Elab {
         name,
         signals: Seq::of(signals),
         body,
-    })
+    }
+}
+
+/// Gives each signal its least width.
+///
+/// The least widths are the least ones with which each signal whose width isn't written is at least as wide as the
+/// source of each connect to it, as its initial value where it is a register, and as its expression where it is a
+/// node. The circuit stays the same besides. Of a formed circuit the result is sized: it is formed, it has all widths,
+/// a node is exactly as wide as its expression, and no line breaks a rule on widths. `TooWide` and `BadRange` tell of
+/// the least line that breaks a rule under these widths; on one line `TooWide` comes first. A refused circuit is
+/// dropped.
+///
+/// Each connect is looked at twice, and once more for each read in its source when the width of what it reads rises,
+/// which is at most 129 times a signal. A look takes time linear in the size of the source.
+pub fn infer(alloc: Global, elab: Elab) -> Result<Elab, WidthFault>
+    ensures ok { IfOk result (λ e. (w : List ℕ) × IsLeast elab w × (width_rule elab w ≡ None) × (e ≡ with_widths elab w)) }
+    ensures sized { IfOk result (λ e. Formed elab → Sized e) }
+    ensures wide { (line : ℕ) → IsErrOf result (WidthFault.TooWide line) → (w : List ℕ) × IsLeast elab w × (width_rule elab w ≡ Some (too_wide line)) }
+    ensures bad { (line : ℕ) → IsErrOf result (WidthFault.BadRange line) → (w : List ℕ) × IsLeast elab w × (width_rule elab w ≡ Some (bad_range line)) }
+{
+    let widths = inferred(alloc, &elab)?;
+    Ok(with_its_widths(elab, &widths))
 }

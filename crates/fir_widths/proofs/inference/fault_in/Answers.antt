@@ -1,4 +1,4 @@
-use Rattle.std.proofs.Common.{◌∙◌, ap, Option, ℕ, List, option_map}
+use Rattle.std.proofs.Common.{◌∙◌, ap, Option, List, option_map}
 use Rattle.net_core.specs.declared.tree.SignalInfo.{SignalInfo}
 use Rattle.net_core.specs.WidthRules.{wide_signals, least_line, use_lines, is_wide, is_bad, WidthRule}
 use Rattle.fir_widths.specs.Gathering.{uses_seen}

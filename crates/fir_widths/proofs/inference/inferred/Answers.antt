@@ -1,4 +1,4 @@
-use Rattle.std.proofs.Common.{◌∙◌, ◌≡◌, ap, List, ℕ, option_map}
+use Rattle.std.proofs.Common.{◌∙◌, ap, List, ℕ, option_map}
 use Rattle.net_core.specs.WidthRules.{width_rule}
 use Rattle.fir_widths.specs.Inferring.{fault_of}
 use Rattle.fir_widths.proofs.LeastFacts.{no_rule, ruled_wide, ruled_bad, told}

@@ -1,5 +1,5 @@
 use Rattle.std.proofs.Common.{arith, refl, ◌∙◌, ◌≡◌, ◌<◌, length}
-use Rattle.fir_widths.proofs.Setting.{mixed_next, mixed_end, length-mixed}
+use Rattle.fir_widths.proofs.Setting.{mixed_next, mixed_end}
 use Rattle.fir_widths.proofs.inference.with_all_widths.Goals as goal
 
 pub loop-k-preserved : goal.loop-k-preserved
