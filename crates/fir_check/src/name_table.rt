@@ -86,10 +86,16 @@ fn name_fields(alloc: Global, fields: &[Field]) -> Result<NameTable, Memory>
     Ok(table)
 }
 
-/// The fields of a bundle by their names, `None` where there isn't enough memory for the table. Takes
-/// time and memory linear in the fields' names.
+/// So many fields are looked for one after another sooner than a table of them is made.
+const FEW_FIELDS: usize = 32;
+
+/// The fields of a bundle by their names, `None` where they are few or there isn't enough memory for
+/// the table. Takes time and memory linear in the fields' names.
 pub fn table_of_fields(alloc: Global, fields: &[Field]) -> Option<NameTable>
     ensures { IfSome result (NamesFields fields.now) }
 {
+    if fields.len() <= FEW_FIELDS {
+        return None;
+    }
     name_fields(alloc, fields).ok()
 }

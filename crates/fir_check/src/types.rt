@@ -299,8 +299,8 @@ pub fn has_unsized_input(port: &Port) -> bool
 }
 
 /// Whether two types have one shape. The time is linear in the size of the types where bundles repeat
-/// no field; where their fields stand in another order, a table of their names is made. Where there
-/// isn't enough memory for one, each field is looked for among all of the other bundle.
+/// no field; where many fields stand in another order, tables of their names are made. Where there
+/// isn't enough memory for these, each field is looked for among all of the other bundle.
 #[cycle(same_shape)]
 pub fn same_shape(alloc: Global, ty: &Ty, other: &Ty) -> bool
     ensures { result ≡ same_shape ty.now other.now }
