@@ -1,0 +1,205 @@
+-- Tests that tell that a circuit is formed, sized and without a loop.
+use Rattle.std.proofs.Common.{◌≡◌, ◌≢◌, ◌∙◌, sym, ap, subst, ℕ, zero, suc, ◌<◌, ◌≤◌, ◌+◌, Bool, true, false, not, ◌&&◌, ◌||◌, List, [], ◌∷◌, ◌++◌, Option, Some, None, nat_eq, nat_lt, nat_le, cond, if◌then◌else◌, ◌⊎◌, inl, inr, refl, ⊎_elim, length, arith, is_some, is_none}
+use Rattle.std.specs.Prelude.{slice_get, slice_index, ◌==◌}
+use Rattle.std.specs.List.{All, list_all}
+use Rattle.std.specs.Str.{bytes_eq}
+use Rattle.std.specs.Cmp.Lexicographic.{other_text}
+use Rattle.std.proofs.lemmas.List.Elements.{All-nil, All-cons, All-head, All-tail}
+use Rattle.std.proofs.lemmas.Bool.{and_parts, or_cases, eqb-true, eqb-false, ltb-true, leb-true, cases_order}
+use Rattle.net_core.specs.declared.tree.Elab.{Elab}
+use Rattle.net_core.specs.declared.tree.SignalInfo.{SignalInfo}
+use Rattle.net_core.specs.declared.tree.GroundReset.{GroundReset}
+use Rattle.net_core.specs.Signals.{info, is_input, is_port, is_node, is_register, is_kept}
+use Rattle.net_core.specs.Shapes.{shape}
+use Rattle.net_core.specs.Values.{mentions}
+use Rattle.net_core.specs.Body.{Body, done, declare, set, when, body_of, whens, depth}
+use Rattle.net_core.specs.Last.{home, own, or_else, reads}
+use Rattle.net_core.specs.Depends.{reads_of, Loops, ends, goes, NoLoop}
+use Rattle.net_core.specs.Rules.{has}
+use Rattle.net_core.specs.Widths.{Asked, sources}
+use Rattle.net_core.specs.WidthRules.{Use, uses, width_rule}
+use Rattle.net_core.specs.Formed.{Formed, Sized, Declared, made, is_signed, declares, lines_of, first_declared, set_signals, count_of, nodes_follow, in_scope, width_fits, given_widths}
+use Rattle.net_core.proofs.FormedFacts.{All-left, All-right}
+use Rattle.net_core.proofs.ReadLists.{mentioned, mentions_listed, reads_from, reads_listed}
+
+-- all numbers below n
+abbrev pub up_to : ℕ → (ℕ → Bool) → Bool
+up_to zero p = true
+up_to (suc n) p = p n && up_to n p
+
+pub below : (n : ℕ) (p : ℕ → Bool) → up_to n p ≡ true → (x : ℕ) → x < n → p x ≡ true
+below zero p h x l = absurd (none x l)
+  where
+    none : (y : ℕ) → y < 0 → ⊥
+    none y k = omega arith
+below (suc n) p h x l = step (nat_eq x n) refl (below n p (and_parts (p n) (up_to n p) h).1 x)
+  where
+    other : x ≢ n → x < n
+    other d = omega arith
+
+    step : (t : Bool) → nat_eq x n ≡ t → (x < n → p x ≡ true) → p x ≡ true
+    step true e k = rw (eqb-true x n e) (and_parts (p n) (up_to n p) h).0
+    step false e k = k (other (eqb-false x n e))
+
+pub passes : {X : Type 0} (p : X → Bool) (xs : List X) → list_all p xs ≡ true → All (λ x. p x ≡ true) xs
+passes p [] h = All-nil (λ x. p x ≡ true)
+passes p (x ∷ xs) h = let t = and_parts (p x) (list_all p xs) h in All-cons (λ y. p y ≡ true) x xs t.0 (passes p xs t.1)
+
+pub has_passes : (p : ℕ → Bool) (xs : List ℕ) (y : ℕ) → list_all p xs ≡ true → has xs y ≡ true → p y ≡ true
+has_passes p [] y h m = cc
+has_passes p (x ∷ xs) y h m =
+    let t = and_parts (p x) (list_all p xs) h in
+    ⊎_elim (λ e. rw (eqb-true y x e) t.0) (λ n. has_passes p xs y t.1 n) (or_cases (nat_eq y x) (has xs y) m)
+
+-- where a test holds, so does what follows
+pub then_ : (a b : Bool) → (not a || b) ≡ true → a ≡ true → b ≡ true
+then_ true b h e = h
+then_ false b h e = cc
+
+pub shut : (b : Bool) → not b ≡ true → b ≡ false
+shut false h = refl
+shut true h = cc
+
+abbrev pub is_one : List ℕ → ℕ → Bool
+is_one [] n = false
+is_one (x ∷ []) n = nat_eq x n
+is_one (x ∷ y ∷ ys) n = false
+
+one_is : (xs : List ℕ) (n : ℕ) → is_one xs n ≡ true → xs ≡ n ∷ []
+one_is [] n h = cc
+one_is (x ∷ []) n h = ap (λ k. k ∷ []) (eqb-true x n h)
+one_is (x ∷ y ∷ ys) n h = cc
+
+abbrev pub is_place : Option ℕ → ℕ → Bool
+is_place None x = false
+is_place (Some y) x = nat_eq y x
+
+place_is : (o : Option ℕ) (x : ℕ) → is_place o x ≡ true → o ≡ Some x
+place_is None x h = cc
+place_is (Some y) x h = ap Some (eqb-true y x h)
+
+abbrev pub same_sign : Bool → Bool → Bool
+same_sign a b = if a then b else not b
+
+sign_is : (a b : Bool) → same_sign a b ≡ true → a ≡ b
+sign_is true true h = refl
+sign_is true false h = cc
+sign_is false true h = cc
+sign_is false false h = refl
+
+-- what the signals and the body have to pass
+pub record Passes (signals : List SignalInfo) (b : Body) : Type 0 where
+  pub few : nat_le (length signals) 65536 ≡ true
+  pub read : list_all (λ u. list_all (λ y. nat_lt y (length signals)) (mentioned u.expr)) (uses b) ≡ true
+  pub set_below : list_all (λ x. nat_lt x (length signals)) (set_signals b) ≡ true
+  pub declared_below : list_all (λ d. nat_lt d.signal (length signals)) (declares b) ≡ true
+  pub declared_once : up_to (length signals) (λ x. is_one (lines_of x (declares b)) (info signals x).line) ≡ true
+  pub ports_first : up_to (length signals) (λ y. not (is_port (info signals y).role) || up_to y (λ x. is_port (info signals x).role)) ≡ true
+  pub few_ports : up_to (length signals) (λ x. not (is_port (info signals x).role) || nat_lt x 256) ≡ true
+  pub distinct : up_to (length signals) (λ y. not (is_port (info signals y).role)
+      || up_to y (λ x. not (bytes_eq (info signals x).name (info signals y).name))) ≡ true
+  pub ports_declared : up_to (length signals) (λ x. not (is_port (info signals x).role) || is_place (slice_get (first_declared b) x) x) ≡ true
+  pub inputs_given : up_to (length signals) (λ x. not (is_input (info signals x).role) || is_some (info signals x).width) ≡ true
+  pub nodes_set : nodes_follow signals b ≡ true
+  pub nodes_once : up_to (length signals) (λ x. not (is_node (info signals x).role) || nat_eq (count_of x (set_signals b)) 1) ≡ true
+  pub resets : list_all (λ d. not (is_some d.reset) || is_register (info signals d.signal).role) (declares b) ≡ true
+  pub inputs_kept : list_all (λ x. not (is_input (info signals x).role)) (set_signals b) ≡ true
+  pub scoped : in_scope [] b ≡ true
+  pub right : list_all (λ u. (made signals u.expr).right) (uses b) ≡ true
+  pub one_sign : list_all (λ a. same_sign (shape signals [] a.source).signed (info signals a.sink).signed) (sources b) ≡ true
+  pub conditions : list_all (λ u. not u.condition || not (shape signals [] u.expr).signed) (uses b) ≡ true
+  pub narrow : list_all (λ i. width_fits i.width) signals ≡ true
+  pub nested : nat_le (depth b) 320 ≡ true
+  pub few_whens : nat_le (whens b) 4194304 ≡ true
+
+distinct_by : (signals : List SignalInfo) → up_to (length signals) (λ y. not (is_port (info signals y).role)
+      || up_to y (λ x. not (bytes_eq (info signals x).name (info signals y).name))) ≡ true
+    → (x y : ℕ) → y < length signals → is_port (info signals y).role ≡ true → x < y → (info signals x).name ≢ (info signals y).name
+distinct_by signals h x y l p k =
+    other_text _ _ (sym (shut _ (below y _ (then_ _ _ (below (length signals) _ h y l) p) x k)))
+
+pub formed_by : (e : Elab) (b : Body) → body_of e.body ≡ b → Passes e.signals b → Formed e
+formed_by e b h t = record {
+  few = leb-true _ _ t.few;
+  read = rw h (λ k d l y m. ltb-true _ _ (has_passes (λ z. nat_lt z (length e.signals)) _ y (passes _ (uses b) t.read k d l) (sym (mentions_listed _ y) ∙ m)));
+  set_below = rw h (λ k d l. ltb-true _ _ (passes _ (set_signals b) t.set_below k d l));
+  declared_below = rw h (λ k d l. ltb-true _ _ (passes _ (declares b) t.declared_below k d l));
+  declared_once = rw h (λ x l. one_is _ _ (below (length e.signals) _ t.declared_once x l));
+  ports_first = λ x y k l p. below y _ (then_ _ _ (below (length e.signals) _ t.ports_first y l) p) x k;
+  few_ports = λ x l p. ltb-true _ _ (then_ _ _ (below (length e.signals) _ t.few_ports x l) p);
+  distinct = λ x y k l p q same. ⊎_elim (λ i. i) (λ o. ⊎_elim
+      (λ m. absurd (distinct_by e.signals t.distinct x y l q m same))
+      (λ m. absurd (distinct_by e.signals t.distinct y x k p m (sym same))) o) (cases_order x y);
+  ports_declared = rw h (λ x l p. place_is _ _ (then_ _ _ (below (length e.signals) _ t.ports_declared x l) p));
+  inputs_given = λ x l p. then_ _ _ (below (length e.signals) _ t.inputs_given x l) p;
+  nodes_set = rw h t.nodes_set;
+  nodes_once = rw h (λ x l p. eqb-true _ _ (then_ _ _ (below (length e.signals) _ t.nodes_once x l) p));
+  resets = rw h (λ k d l p. then_ _ _ (passes _ (declares b) t.resets k d l) p);
+  inputs_kept = rw h (λ k d l. shut _ (passes _ (set_signals b) t.inputs_kept k d l));
+  scoped = rw h t.scoped;
+  right = rw h (passes (λ u. (made e.signals u.expr).right) (uses b) t.right);
+  one_sign = rw h (λ k d l. sign_is _ _ (passes _ (sources b) t.one_sign k d l));
+  conditions = rw h (λ k d l p. shut _ (then_ _ _ (passes _ (uses b) t.conditions k d l) p));
+  narrow = passes (λ i. width_fits i.width) e.signals t.narrow;
+  nested = rw h (leb-true _ _ t.nested);
+  few_whens = rw h (leb-true _ _ t.few_whens);
+}
+
+abbrev pub is_node_wide : Elab → Asked → Bool
+is_node_wide e a = not (is_node (info e.signals a.sink).role)
+    || nat_eq (slice_index (given_widths e) a.sink) (shape e.signals (given_widths e) a.source).width
+
+pub sized_by : (e : Elab) (b : Body) → body_of e.body ≡ b → Formed e → list_all (λ i. is_some i.width) e.signals ≡ true
+    → list_all (is_node_wide e) (sources b) ≡ true → width_rule e (given_widths e) ≡ None → Sized e
+sized_by e b h f given nodes ruled = record {
+  formed = f;
+  given = passes (λ i. is_some i.width) e.signals given;
+  nodes = rw h (λ k d l p. eqb-true _ _ (then_ _ _ (passes _ (sources b) nodes k d l) p));
+  ruled = ruled;
+}
+
+-- a signal that reads something is declared
+or_else_none : {A : Type 0} (a b : Option A) → is_some (or_else a b) ≡ true → (is_some a ≡ true) ⊎ (is_some b ≡ true)
+or_else_none None b h = inr h
+or_else_none (Some a) b h = inl h
+
+home_declared : (P : ℕ → Type 0) (x : ℕ) (b : Body) → All (λ d. P d.signal) (declares b) → is_some (home x b) ≡ true → P x
+home_declared P x done h m = cc
+home_declared P x (declare y line reset rest) h m =
+    step (nat_eq x y) refl m (home_declared P x rest (All-tail (λ d. P d.signal) _ (declares rest) h))
+  where
+    step : (t : Bool) → nat_eq x y ≡ t → is_some (cond t (Some rest) (home x rest)) ≡ true → (is_some (home x rest) ≡ true → P x) → P x
+    step true e n k = subst P (sym (eqb-true x y e)) (All-head (λ d. P d.signal) _ (declares rest) h)
+    step false e n k = k n
+home_declared P x (set line y e rest) h m = home_declared P x rest h m
+home_declared P x (when line c taken other rest) h m =
+    let u = All-right (λ d. P d.signal) (declares taken) (declares other ++ declares rest) h in
+    ⊎_elim (λ t. home_declared P x taken (All-left (λ d. P d.signal) (declares taken) (declares other ++ declares rest) h) t)
+    (λ n. ⊎_elim (λ t. home_declared P x other (All-left (λ d. P d.signal) (declares other) (declares rest) u) t)
+    (λ t. home_declared P x rest (All-right (λ d. P d.signal) (declares other) (declares rest) u) t)
+    (or_else_none (home x other) (home x rest) n))
+    (or_else_none (home x taken) (or_else (home x other) (home x rest)) m)
+
+pub reader_below : (e : Elab) → Formed e → (x y : ℕ) → reads_of e x y ≡ true → x < length e.signals
+reader_below e f x y r = step (is_kept (info e.signals x).role) r
+  where
+    found : (o : Option Body) → reads x y (elim o [ None ↦ done | Some c ↦ c ]) false ≡ true → is_some o ≡ true
+    found None m = cc
+    found (Some c) m = refl
+
+    step : (t : Bool) → cond t false (reads x y (own x (body_of e.body)) false) ≡ true → x < length e.signals
+    step true m = cc
+    step false m = home_declared (λ z. z < length e.signals) x (body_of e.body) f.declared_below (found (home x (body_of e.body)) m)
+
+-- numbers that fall from each signal to what it reads leave no loop
+loop_falls : (e : Elab) (rank : ℕ → ℕ) → ((x y : ℕ) → reads_of e x y ≡ true → rank y < rank x) → (p x : ℕ) → Loops e p x → rank p < rank x
+loop_falls e rank f p x (ends _ r) = f x p r
+loop_falls e rank f p x (goes _ y r l) = let a = loop_falls e rank f p y l in let b = f x y r in omega arith
+
+pub no_loop_by : (e : Elab) (b : Body) → body_of e.body ≡ b → Formed e → (rank : ℕ → ℕ)
+    → up_to (length e.signals) (λ x. list_all (λ y. nat_lt (rank y) (rank x)) (reads_from e.signals b x)) ≡ true → NoLoop e
+no_loop_by e b h f rank t x l = let a = loop_falls e rank falls x x l in omega arith
+  where
+    falls : (x y : ℕ) → reads_of e x y ≡ true → rank y < rank x
+    falls x y r = ltb-true _ _ (has_passes _ (reads_from e.signals b x) y
+        (below (length e.signals) _ t x (reader_below e f x y r)) (sym (reads_listed e b h x y) ∙ r))
