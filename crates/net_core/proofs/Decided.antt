@@ -6,6 +6,7 @@ use Rattle.std.specs.Str.{bytes_eq}
 use Rattle.std.specs.Cmp.Lexicographic.{other_text}
 use Rattle.std.proofs.lemmas.List.Elements.{All-nil, All-cons, All-head, All-tail}
 use Rattle.std.proofs.lemmas.Bool.{and_parts, or_cases, eqb-true, eqb-false, ltb-true, leb-true, cases_order}
+use Rattle.tb_base.specs.Row.{same_sign}
 use Rattle.net_core.specs.declared.tree.Elab.{Elab}
 use Rattle.net_core.specs.declared.tree.SignalInfo.{SignalInfo}
 use Rattle.net_core.specs.declared.tree.GroundReset.{GroundReset}
@@ -77,9 +78,6 @@ is_place (Some y) x = nat_eq y x
 place_is : (o : Option ℕ) (x : ℕ) → is_place o x ≡ true → o ≡ Some x
 place_is None x h = cc
 place_is (Some y) x h = ap Some (eqb-true y x h)
-
-abbrev pub same_sign : Bool → Bool → Bool
-same_sign a b = if a then b else not b
 
 sign_is : (a b : Bool) → same_sign a b ≡ true → a ≡ b
 sign_is true true h = refl
