@@ -1,6 +1,6 @@
 -- Tests that tell that a circuit is formed, sized and without a loop.
-use Rattle.std.proofs.Common.{◌≡◌, ◌≢◌, ◌∙◌, sym, ap, subst, ℕ, zero, suc, ◌<◌, ◌≤◌, ◌+◌, Bool, true, false, not, ◌&&◌, ◌||◌, List, [], ◌∷◌, ◌++◌, Option, Some, None, nat_eq, nat_lt, nat_le, cond, if◌then◌else◌, ◌⊎◌, inl, inr, refl, ⊎_elim, length, arith, is_some, is_none}
-use Rattle.std.specs.Prelude.{slice_get, slice_index, ◌==◌}
+use Rattle.std.proofs.Common.{◌≡◌, ◌≢◌, ◌∙◌, sym, ap, subst, ℕ, zero, suc, ◌<◌, Bool, true, false, not, ◌&&◌, ◌||◌, List, [], ◌∷◌, ◌++◌, Option, Some, None, nat_eq, nat_lt, nat_le, cond, ◌⊎◌, inl, inr, get_or, refl, ⊎_elim, length, arith, is_some}
+use Rattle.std.specs.Prelude.{slice_get, slice_index}
 use Rattle.std.specs.List.{All, list_all}
 use Rattle.std.specs.Str.{bytes_eq}
 use Rattle.std.specs.Cmp.Lexicographic.{other_text}
@@ -9,17 +9,15 @@ use Rattle.std.proofs.lemmas.Bool.{and_parts, or_cases, eqb-true, eqb-false, ltb
 use Rattle.tb_base.specs.Row.{same_sign}
 use Rattle.net_core.specs.declared.tree.Elab.{Elab}
 use Rattle.net_core.specs.declared.tree.SignalInfo.{SignalInfo}
-use Rattle.net_core.specs.declared.tree.GroundReset.{GroundReset}
-use Rattle.net_core.specs.Signals.{info, is_input, is_port, is_node, is_register, is_kept}
+use Rattle.net_core.specs.Signals.{info, is_input, is_port, is_node, is_register, is_kept, given_width}
 use Rattle.net_core.specs.Shapes.{shape}
-use Rattle.net_core.specs.Values.{mentions}
 use Rattle.net_core.specs.Body.{Body, done, declare, set, when, body_of, whens, depth}
 use Rattle.net_core.specs.Last.{home, own, or_else, reads}
 use Rattle.net_core.specs.Depends.{reads_of, Loops, ends, goes, NoLoop}
 use Rattle.net_core.specs.Rules.{has}
-use Rattle.net_core.specs.Widths.{Asked, sources}
-use Rattle.net_core.specs.WidthRules.{Use, uses, width_rule}
-use Rattle.net_core.specs.Formed.{Formed, Sized, Declared, made, is_signed, declares, lines_of, first_declared, set_signals, count_of, nodes_follow, in_scope, width_fits, given_widths}
+use Rattle.net_core.specs.Widths.{Asked, sources, is_free, Meets}
+use Rattle.net_core.specs.WidthRules.{uses, width_rule}
+use Rattle.net_core.specs.Formed.{Formed, Sized, made, declares, lines_of, first_declared, set_signals, count_of, nodes_follow, in_scope, width_fits, given_widths}
 use Rattle.net_core.proofs.FormedFacts.{All-left, All-right}
 use Rattle.net_core.proofs.ReadLists.{mentioned, mentions_listed, reads_from, reads_listed}
 
@@ -85,62 +83,70 @@ sign_is true false h = cc
 sign_is false true h = cc
 sign_is false false h = refl
 
--- what the signals and the body have to pass
-pub record Passes (signals : List SignalInfo) (b : Body) : Type 0 where
-  pub few : nat_le (length signals) 65536 ≡ true
-  pub read : list_all (λ u. list_all (λ y. nat_lt y (length signals)) (mentioned u.expr)) (uses b) ≡ true
-  pub set_below : list_all (λ x. nat_lt x (length signals)) (set_signals b) ≡ true
-  pub declared_below : list_all (λ d. nat_lt d.signal (length signals)) (declares b) ≡ true
-  pub declared_once : up_to (length signals) (λ x. is_one (lines_of x (declares b)) (info signals x).line) ≡ true
-  pub ports_first : up_to (length signals) (λ y. not (is_port (info signals y).role) || up_to y (λ x. is_port (info signals x).role)) ≡ true
-  pub few_ports : up_to (length signals) (λ x. not (is_port (info signals x).role) || nat_lt x 256) ≡ true
-  pub distinct : up_to (length signals) (λ y. not (is_port (info signals y).role)
-      || up_to y (λ x. not (bytes_eq (info signals x).name (info signals y).name))) ≡ true
-  pub ports_declared : up_to (length signals) (λ x. not (is_port (info signals x).role) || is_place (slice_get (first_declared b) x) x) ≡ true
-  pub inputs_given : up_to (length signals) (λ x. not (is_input (info signals x).role) || is_some (info signals x).width) ≡ true
-  pub nodes_set : nodes_follow signals b ≡ true
-  pub nodes_once : up_to (length signals) (λ x. not (is_node (info signals x).role) || nat_eq (count_of x (set_signals b)) 1) ≡ true
-  pub resets : list_all (λ d. not (is_some d.reset) || is_register (info signals d.signal).role) (declares b) ≡ true
-  pub inputs_kept : list_all (λ x. not (is_input (info signals x).role)) (set_signals b) ≡ true
-  pub scoped : in_scope [] b ≡ true
-  pub right : list_all (λ u. (made signals u.expr).right) (uses b) ≡ true
-  pub one_sign : list_all (λ a. same_sign (shape signals [] a.source).signed (info signals a.sink).signed) (sources b) ≡ true
-  pub conditions : list_all (λ u. not u.condition || not (shape signals [] u.expr).signed) (uses b) ≡ true
-  pub narrow : list_all (λ i. width_fits i.width) signals ≡ true
-  pub nested : nat_le (depth b) 320 ≡ true
-  pub few_whens : nat_le (whens b) 4194304 ≡ true
+-- the tests, in the order of the parts of `Formed`
+abbrev pub form_tests : List SignalInfo → Body → List Bool
+form_tests signals b =
+    nat_le (length signals) 65536
+    ∷ list_all (λ u. list_all (λ y. nat_lt y (length signals)) (mentioned u.expr)) (uses b)
+    ∷ list_all (λ x. nat_lt x (length signals)) (set_signals b)
+    ∷ list_all (λ d. nat_lt d.signal (length signals)) (declares b)
+    ∷ up_to (length signals) (λ x. is_one (lines_of x (declares b)) (info signals x).line)
+    ∷ up_to (length signals) (λ y. not (is_port (info signals y).role) || up_to y (λ x. is_port (info signals x).role))
+    ∷ up_to (length signals) (λ x. not (is_port (info signals x).role) || nat_lt x 256)
+    ∷ up_to (length signals) (λ y. not (is_port (info signals y).role) || up_to y (λ x. not (bytes_eq (info signals x).name (info signals y).name)))
+    ∷ up_to (length signals) (λ x. not (is_port (info signals x).role) || is_place (slice_get (first_declared b) x) x)
+    ∷ up_to (length signals) (λ x. not (is_input (info signals x).role) || is_some (info signals x).width)
+    ∷ nodes_follow signals b
+    ∷ up_to (length signals) (λ x. not (is_node (info signals x).role) || nat_eq (count_of x (set_signals b)) 1)
+    ∷ list_all (λ d. not (is_some d.reset) || is_register (info signals d.signal).role) (declares b)
+    ∷ list_all (λ x. not (is_input (info signals x).role)) (set_signals b)
+    ∷ in_scope [] b
+    ∷ list_all (λ u. (made signals u.expr).right) (uses b)
+    ∷ list_all (λ a. same_sign (shape signals [] a.source).signed (info signals a.sink).signed) (sources b)
+    ∷ list_all (λ u. not u.condition || not (shape signals [] u.expr).signed) (uses b)
+    ∷ list_all (λ i. width_fits i.width) signals
+    ∷ nat_le (depth b) 320
+    ∷ nat_le (whens b) 4194304
+    ∷ []
+
+abbrev pub is_formed : List SignalInfo → Body → Bool
+is_formed signals b = list_all (λ t. t) (form_tests signals b)
+
+-- the test at a place
+pub test_at : (ts : List Bool) → list_all (λ t. t) ts ≡ true → (k : ℕ) → nat_lt k (length ts) ≡ true → get_or ts k false ≡ true
+test_at ts h k l = passes (λ t. t) ts h k false (ltb-true k (length ts) l)
 
 distinct_by : (signals : List SignalInfo) → up_to (length signals) (λ y. not (is_port (info signals y).role)
-      || up_to y (λ x. not (bytes_eq (info signals x).name (info signals y).name))) ≡ true
+    || up_to y (λ x. not (bytes_eq (info signals x).name (info signals y).name))) ≡ true
     → (x y : ℕ) → y < length signals → is_port (info signals y).role ≡ true → x < y → (info signals x).name ≢ (info signals y).name
 distinct_by signals h x y l p k =
     other_text _ _ (sym (shut _ (below y _ (then_ _ _ (below (length signals) _ h y l) p) x k)))
 
-pub formed_by : (e : Elab) (b : Body) → body_of e.body ≡ b → Passes e.signals b → Formed e
-formed_by e b h t = record {
-  few = leb-true _ _ t.few;
-  read = rw h (λ k d l y m. ltb-true _ _ (has_passes (λ z. nat_lt z (length e.signals)) _ y (passes _ (uses b) t.read k d l) (sym (mentions_listed _ y) ∙ m)));
-  set_below = rw h (λ k d l. ltb-true _ _ (passes _ (set_signals b) t.set_below k d l));
-  declared_below = rw h (λ k d l. ltb-true _ _ (passes _ (declares b) t.declared_below k d l));
-  declared_once = rw h (λ x l. one_is _ _ (below (length e.signals) _ t.declared_once x l));
-  ports_first = λ x y k l p. below y _ (then_ _ _ (below (length e.signals) _ t.ports_first y l) p) x k;
-  few_ports = λ x l p. ltb-true _ _ (then_ _ _ (below (length e.signals) _ t.few_ports x l) p);
+pub formed_by : (e : Elab) (b : Body) → body_of e.body ≡ b → is_formed e.signals b ≡ true → Formed e
+formed_by e b h m = let t = test_at (form_tests e.signals b) m in record {
+  few = leb-true _ _ (t 0 refl);
+  read = rw h (λ k d l y m. ltb-true _ _ (has_passes (λ z. nat_lt z (length e.signals)) _ y (passes _ (uses b) (t 1 refl) k d l) (sym (mentions_listed _ y) ∙ m)));
+  set_below = rw h (λ k d l. ltb-true _ _ (passes _ (set_signals b) (t 2 refl) k d l));
+  declared_below = rw h (λ k d l. ltb-true _ _ (passes _ (declares b) (t 3 refl) k d l));
+  declared_once = rw h (λ x l. one_is _ _ (below (length e.signals) _ (t 4 refl) x l));
+  ports_first = λ x y k l p. below y _ (then_ _ _ (below (length e.signals) _ (t 5 refl) y l) p) x k;
+  few_ports = λ x l p. ltb-true _ _ (then_ _ _ (below (length e.signals) _ (t 6 refl) x l) p);
   distinct = λ x y k l p q same. ⊎_elim (λ i. i) (λ o. ⊎_elim
-      (λ m. absurd (distinct_by e.signals t.distinct x y l q m same))
-      (λ m. absurd (distinct_by e.signals t.distinct y x k p m (sym same))) o) (cases_order x y);
-  ports_declared = rw h (λ x l p. place_is _ _ (then_ _ _ (below (length e.signals) _ t.ports_declared x l) p));
-  inputs_given = λ x l p. then_ _ _ (below (length e.signals) _ t.inputs_given x l) p;
-  nodes_set = rw h t.nodes_set;
-  nodes_once = rw h (λ x l p. eqb-true _ _ (then_ _ _ (below (length e.signals) _ t.nodes_once x l) p));
-  resets = rw h (λ k d l p. then_ _ _ (passes _ (declares b) t.resets k d l) p);
-  inputs_kept = rw h (λ k d l. shut _ (passes _ (set_signals b) t.inputs_kept k d l));
-  scoped = rw h t.scoped;
-  right = rw h (passes (λ u. (made e.signals u.expr).right) (uses b) t.right);
-  one_sign = rw h (λ k d l. sign_is _ _ (passes _ (sources b) t.one_sign k d l));
-  conditions = rw h (λ k d l p. shut _ (then_ _ _ (passes _ (uses b) t.conditions k d l) p));
-  narrow = passes (λ i. width_fits i.width) e.signals t.narrow;
-  nested = rw h (leb-true _ _ t.nested);
-  few_whens = rw h (leb-true _ _ t.few_whens);
+      (λ m. absurd (distinct_by e.signals (t 7 refl) x y l q m same))
+      (λ m. absurd (distinct_by e.signals (t 7 refl) y x k p m (sym same))) o) (cases_order x y);
+  ports_declared = rw h (λ x l p. place_is _ _ (then_ _ _ (below (length e.signals) _ (t 8 refl) x l) p));
+  inputs_given = λ x l p. then_ _ _ (below (length e.signals) _ (t 9 refl) x l) p;
+  nodes_set = rw h (t 10 refl);
+  nodes_once = rw h (λ x l p. eqb-true _ _ (then_ _ _ (below (length e.signals) _ (t 11 refl) x l) p));
+  resets = rw h (λ k d l p. then_ _ _ (passes _ (declares b) (t 12 refl) k d l) p);
+  inputs_kept = rw h (λ k d l. shut _ (passes _ (set_signals b) (t 13 refl) k d l));
+  scoped = rw h (t 14 refl);
+  right = rw h (passes (λ u. (made e.signals u.expr).right) (uses b) (t 15 refl));
+  one_sign = rw h (λ k d l. sign_is _ _ (passes _ (sources b) (t 16 refl) k d l));
+  conditions = rw h (λ k d l p. shut _ (then_ _ _ (passes _ (uses b) (t 17 refl) k d l) p));
+  narrow = passes (λ i. width_fits i.width) e.signals (t 18 refl);
+  nested = rw h (leb-true _ _ (t 19 refl));
+  few_whens = rw h (leb-true _ _ (t 20 refl));
 }
 
 abbrev pub is_node_wide : Elab → Asked → Bool
@@ -201,3 +207,21 @@ no_loop_by e b h f rank t x l = let a = loop_falls e rank falls x x l in omega a
     falls : (x y : ℕ) → reads_of e x y ≡ true → rank y < rank x
     falls x y r = ltb-true _ _ (has_passes _ (reads_from e.signals b x) y
         (below (length e.signals) _ t x (reader_below e f x y r)) (sym (reads_listed e b h x y) ∙ r))
+
+-- widths that meet what the circuit asks for
+abbrev pub is_written : Elab → List ℕ → ℕ → Bool
+is_written e w x = is_free (info e.signals x) || nat_eq (slice_index w x) (given_width (info e.signals x))
+
+abbrev pub is_wide_enough : Elab → List ℕ → Asked → Bool
+is_wide_enough e w a = not (is_free (info e.signals a.sink)) || nat_le (shape e.signals w a.source).width (slice_index w a.sink)
+
+pub meets_by : (e : Elab) (b : Body) → body_of e.body ≡ b → (w : List ℕ) → up_to (length e.signals) (is_written e w) ≡ true
+    → list_all (is_wide_enough e w) (sources b) ≡ true → Meets e w
+meets_by e b h w t u = record {
+  written = λ x l f. eqb-true _ _ (left _ _ (below (length e.signals) (is_written e w) t x l) f);
+  wide = rw h (λ k d l f. leb-true _ _ (then_ _ _ (passes _ (sources b) u k d l) f));
+}
+  where
+    left : (c d : Bool) → (c || d) ≡ true → c ≡ false → d ≡ true
+    left true d i j = cc
+    left false d i j = i
