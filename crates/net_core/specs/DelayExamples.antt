@@ -5,6 +5,7 @@ use Rattle.net_core.specs.declared.tree.GroundExpr.TheVariants.{Lit}
 use Rattle.net_core.specs.declared.tree.Ground.{Ground}
 use Rattle.net_core.specs.declared.tree.Ground.TheVariants.{Declare, Set, When}
 use Rattle.net_core.specs.declared.tree.Elab.{Elab}
+use Rattle.net_core.specs.Formed.{Sized}
 use Rattle.net_core.specs.Settled.{Settled, edge}
 use Rattle.net_core.specs.Examples.{s, r, uint, valued, delay}
 
@@ -36,6 +37,9 @@ abbrev pub inside : Elab
 inside = with_enable (Set 6 (s 3) (Some (r 0)) ∷ When 7 (r 1) (register ∷ takes_a ∷ shown ∷ []) [] ∷ [])
 
 pub record DelayExamples : Type 0 where
+  -- both are formed, and their widths fit
+  pub enabled_sized : Sized enabled
+  pub inside_sized : Sized inside
   -- `out` is the register, also while the reset is 1, and not yet the input
   pub out_is_register : Settled delay (valued (9 ∷ 0 ∷ [])) (valued (0 ∷ 0 ∷ 0 ∷ 4 ∷ [])) (valued (9 ∷ 0 ∷ 4 ∷ 4 ∷ []))
   pub in_reset : Settled delay (valued (9 ∷ 1 ∷ [])) (valued (0 ∷ 0 ∷ 0 ∷ 4 ∷ [])) (valued (9 ∷ 1 ∷ 4 ∷ 4 ∷ []))

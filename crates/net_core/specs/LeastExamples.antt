@@ -5,6 +5,7 @@ use Rattle.net_core.specs.declared.tree.Role.TheVariants.{Input, Inner, Reg}
 use Rattle.net_core.specs.declared.tree.GroundExpr.TheVariants.{Apply}
 use Rattle.net_core.specs.declared.tree.Ground.TheVariants.{Declare, Set}
 use Rattle.net_core.specs.declared.tree.Elab.{Elab}
+use Rattle.net_core.specs.Formed.{Sized, with_widths}
 use Rattle.net_core.specs.Widths.{IsLeast}
 use Rattle.net_core.specs.WidthRules.{width_rule, too_wide}
 use Rattle.net_core.specs.Examples.{s, r, uint, one_bit, grower}
@@ -37,13 +38,16 @@ counter = record {
 pub record LeastExamples : Type 0 where
   -- the wire has a bit more than the inputs, for the carry
   pub sum : IsLeast (sum_wire 8) (8 ∷ 8 ∷ 9 ∷ [])
+  pub sum_sized : Sized (with_widths (sum_wire 8) (8 ∷ 8 ∷ 9 ∷ []))
   pub sum_fits : width_rule (sum_wire 8) (8 ∷ 8 ∷ 9 ∷ []) ≡ None
   -- of the widest inputs the sum, and so the wire, is too wide; the wire's line is first
   pub wide_sum : IsLeast (sum_wire 128) (128 ∷ 128 ∷ 129 ∷ [])
   pub too_wide_sum : width_rule (sum_wire 128) (128 ∷ 128 ∷ 129 ∷ []) ≡ Some (too_wide 5)
   -- connects in a loop have least widths where none adds a bit
   pub loop : IsLeast around (8 ∷ 8 ∷ 8 ∷ [])
+  pub loop_sized : Sized (with_widths around (8 ∷ 8 ∷ 8 ∷ []))
   pub counts : IsLeast counter (1 ∷ [])
+  pub counter_sized : Sized (with_widths counter (1 ∷ []))
   pub fits : width_rule counter (1 ∷ []) ≡ None
   -- a register that would have to be wider than itself has none: 129 stands for it
   pub without : IsLeast grower (8 ∷ 129 ∷ [])

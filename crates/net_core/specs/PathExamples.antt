@@ -8,6 +8,7 @@ use Rattle.net_core.specs.declared.tree.SignalInfo.{SignalInfo}
 use Rattle.net_core.specs.declared.tree.Ground.{Ground}
 use Rattle.net_core.specs.declared.tree.Ground.TheVariants.{Declare, Set, When}
 use Rattle.net_core.specs.declared.tree.Elab.{Elab}
+use Rattle.net_core.specs.Formed.{Sized}
 use Rattle.net_core.specs.Depends.{reads_of, InCone, IsChain, IsNamedLoop, NoLoop, uninitialised}
 use Rattle.net_core.specs.Examples.{s, r, uint, chooser, later_wins, ring}
 
@@ -61,6 +62,9 @@ open_wire other = record {
 }
 
 pub record ConeExamples : Type 0 where
+  -- the circuits are formed, and their widths fit
+  pub sized : Sized second_wins
+  pub open_sized : Sized (open_wire [])
   -- a connect that is replaced isn't read: `out` reads `b` alone
   pub replaced : reads_of second_wins 3 0 ≡ false
   pub reads_b : reads_of second_wins 3 1 ≡ true
@@ -78,6 +82,10 @@ pub record ConeExamples : Type 0 where
   pub invalidated : uninitialised (open_wire (Set 9 (s 3) None ∷ [])) ≡ None
 
 pub record PathExamples : Type 0 where
+  -- the circuits are formed, and their widths fit
+  pub two_ways_sized : Sized two_ways
+  pub three_and_two_sized : Sized three_and_two
+  pub short_cut_sized : Sized with_short_cut
   -- of two chains of one length the one that is less: by `w`, whose number is less, though `v` is read first
   pub chain : IsChain two_ways 1 0 (1 ∷ 2 ∷ 0 ∷ [])
   -- a chain from a signal to itself is that signal

@@ -11,7 +11,7 @@ use Rattle.net_core.specs.declared.tree.Ground.{Ground}
 use Rattle.net_core.specs.declared.tree.Ground.TheVariants.{Declare, Set, When}
 use Rattle.net_core.specs.declared.tree.Elab.{Elab}
 use Rattle.net_core.specs.Signals.{is_port, is_register}
-use Rattle.net_core.specs.Formed.{Formed}
+use Rattle.net_core.specs.Formed.{Formed, Sized, with_widths}
 use Rattle.net_core.specs.Depends.{NoLoop}
 use Rattle.net_core.specs.Examples.{s, r, uint}
 
@@ -75,9 +75,15 @@ queue = record {
       ∷ Declare (s 5) 6 None ∷ Declare (s 6) 6 None ∷ queue_rest;
 }
 
+-- a comparison or an `and` has one bit, a sum or a difference one more than the count, which drops it again
+abbrev pub queue_widths : List ℕ
+queue_widths = 1 ∷ 1 ∷ 1 ∷ 8 ∷ 1 ∷ 1 ∷ 8 ∷ 2 ∷ 8 ∷ 8 ∷ 1 ∷ 1 ∷ 1 ∷ 1 ∷ 1 ∷ 3 ∷ 2 ∷ 3 ∷ 2 ∷ []
+
 pub record QueueExamples : Type 0 where
   pub its_ports : count_by (λ i. is_port i.role) queue.signals ≡ 7
   pub its_signals : length queue.signals ≡ 19
   pub its_registers : count_by (λ i. is_register i.role) queue.signals ≡ 3
   pub formed : Formed queue
+  -- with its nodes' widths it is sized
+  pub sized : Sized (with_widths queue queue_widths)
   pub no_loop : NoLoop queue

@@ -1,12 +1,12 @@
 use Rattle.std.proofs.Common.{◌≡◌, subst, Bool, true, false, ℕ, Option, Some, None, [], ◌∷◌, refl, arith}
 use Rattle.std.specs.List.{All}
 use Rattle.std.specs.Int.Count.{count_leading_zeros}
-use Rattle.net_core.specs.Body.{body_of}
-use Rattle.net_core.specs.Signals.{info, is_input, is_node, no_info}
-use Rattle.net_core.specs.Shapes.{shape}
 use Rattle.std.specs.Prelude.{slice_index}
 use Rattle.tb_base.specs.declared.op.Op.TheVariants.{Add}
 use Rattle.net_core.specs.declared.tree.GroundExpr.TheVariants.{Apply}
+use Rattle.net_core.specs.Body.{body_of}
+use Rattle.net_core.specs.Signals.{info, is_input, is_node, no_info}
+use Rattle.net_core.specs.Shapes.{shape}
 use Rattle.net_core.specs.Widths.{Asked, sources}
 use Rattle.net_core.specs.WidthRules.{WidthRule, is_wide, width_rule, too_wide}
 use Rattle.net_core.specs.Formed.{Formed, Sized, set_signals, given_widths, nodes_follow, in_scope}

@@ -6,15 +6,16 @@ use Rattle.tb_base.specs.declared.op.Op.TheVariants.{Add, Tail}
 use Rattle.net_core.specs.declared.tree.Elab.{Elab}
 use Rattle.net_core.specs.declared.tree.GroundExpr.{GroundExpr}
 use Rattle.net_core.specs.declared.tree.GroundExpr.TheVariants.{Apply}
+use Rattle.net_core.specs.WidthRules.{is_wide}
+use Rattle.net_core.specs.Formed.{Sized, with_widths}
 use Rattle.net_core.specs.Body.{body_of}
 use Rattle.net_core.specs.Signals.{info}
 use Rattle.net_core.specs.Shapes.{shape}
 use Rattle.net_core.specs.Widths.{Asked, sources, is_free, Meets, Below, IsLeast}
-use Rattle.net_core.specs.WidthRules.{is_wide}
 use Rattle.net_core.specs.Examples.{r, one_bit, grower}
 use Rattle.net_core.specs.LeastExamples.{sum_wire, around, counter}
+use Rattle.net_core.proofs.Decided.{formed_by, sized_by, meets_by}
 use Rattle.net_core.proofs.Trees.{of_declare, of_set, at_read, at_lit, at_apply}
-use Rattle.net_core.proofs.Decided.{meets_by}
 use Rattle.net_core.proofs.examples.the_least_widths_work_out.Goals as goal
 
 none_less : (n : ℕ) → 0 ≤ n
@@ -161,9 +162,28 @@ grower_least v m = record { each = each }
     each (suc zero) = no_end (slice_index v 1) (subst (λ w. w ≤ slice_index v 1) (grower_shape v) asked)
     each (suc (suc x)) = none_less (slice_index v (suc (suc x)))
 
+sum_sized : Sized (with_widths (sum_wire 8) (8 ∷ 8 ∷ 9 ∷ []))
+sum_sized = sized_by (with_widths (sum_wire 8) (8 ∷ 8 ∷ 9 ∷ [])) (body_of (with_widths (sum_wire 8) (8 ∷ 8 ∷ 9 ∷ [])).body) refl
+    (formed_by (with_widths (sum_wire 8) (8 ∷ 8 ∷ 9 ∷ [])) (body_of (with_widths (sum_wire 8) (8 ∷ 8 ∷ 9 ∷ [])).body) refl (simp (of_declare, of_set, at_read, at_apply) refl))
+    refl (simp (of_declare, of_set) refl) (simp (of_declare, of_set, is_wide, at_read, at_apply) refl)
+
+loop_sized : Sized (with_widths around (8 ∷ 8 ∷ 8 ∷ []))
+loop_sized = sized_by (with_widths around (8 ∷ 8 ∷ 8 ∷ [])) (body_of (with_widths around (8 ∷ 8 ∷ 8 ∷ [])).body) refl
+    (formed_by (with_widths around (8 ∷ 8 ∷ 8 ∷ [])) (body_of (with_widths around (8 ∷ 8 ∷ 8 ∷ [])).body) refl (simp (of_declare, of_set, at_read) refl))
+    refl (simp (of_declare, of_set) refl) (simp (of_declare, of_set, is_wide, at_read) refl)
+
+counter_sized : Sized (with_widths counter (1 ∷ []))
+unfolding count_leading_zeros
+counter_sized = sized_by (with_widths counter (1 ∷ [])) (body_of (with_widths counter (1 ∷ [])).body) refl
+    (formed_by (with_widths counter (1 ∷ [])) (body_of (with_widths counter (1 ∷ [])).body) refl (simp (of_declare, of_set, at_read, at_lit, at_apply) refl))
+    refl (simp (of_declare, of_set) refl) (simp (of_declare, of_set, is_wide, at_read, at_lit, at_apply) refl)
+
 pub returns : goal.returns
 unfolding count_leading_zeros
 returns c = record {
+  sum_sized = sum_sized;
+  loop_sized = loop_sized;
+  counter_sized = counter_sized;
   sum = sum;
   sum_fits = simp (of_declare, of_set, is_wide, at_read, at_apply) refl;
   wide_sum = wide_sum;
