@@ -1,5 +1,5 @@
 -- An expression's value depends on what it mentions.
-use Rattle.std.proofs.Common.{◌≡◌, ◌∙◌, sym, ap, ℕ, Bool, true, false, List, [], ◌∷◌, ◌||◌, ◌==◌, refl, map, subst}
+use Rattle.std.proofs.Common.{◌≡◌, ◌∙◌, sym, ap, ℕ, Bool, true, false, List, [], ◌∷◌, ◌==◌, refl, map, subst}
 use Rattle.std.proofs.lemmas.Bool.{or_left, or_right, eq-eqb}
 use Rattle.std.specs.Prelude.{slice_index}
 use Rattle.tb_base.specs.Word.{Word, cut, value_of}

@@ -2,18 +2,17 @@
 use Rattle.std.proofs.Common.{◌≡◌, ◌≢◌, ◌∙◌, sym, ap, subst, ℕ, zero, suc, ◌+◌, ◌<◌, ◌≤◌, Bool, true, false, not, ◌&&◌, ◌||◌, List, [], ◌∷◌, ◌++◌, Option, Some, None, nat_eq, cond, refl, ⊎_elim, length, arith, is_some}
 use Rattle.std.specs.List.{All, find, range_with_len}
 use Rattle.std.proofs.lemmas.List.Elements.{All-nil, All-cons, All-head, All-tail}
-use Rattle.std.proofs.lemmas.Bool.{or_cases, or_parts, or_left, or_right, both_ways}
+use Rattle.std.proofs.lemmas.Bool.{or_cases}
 use Rattle.tb_base.specs.Word.{Word}
 use Rattle.net_core.specs.declared.tree.Elab.{Elab}
 use Rattle.net_core.specs.declared.tree.SignalInfo.{SignalInfo}
 use Rattle.net_core.specs.declared.tree.GroundExpr.{GroundExpr}
-use Rattle.net_core.specs.declared.tree.GroundReset.{GroundReset}
 use Rattle.net_core.specs.Signals.{info, is_kept}
 use Rattle.net_core.specs.Values.{mentions}
 use Rattle.net_core.specs.Body.{Body, done, declare, set, when, body_of}
 use Rattle.net_core.specs.Last.{or_else, home, own, sinks, reads, source_mentions, source, holds, last, initialised}
 use Rattle.net_core.specs.Settled.{last_connect}
-use Rattle.net_core.specs.Depends.{reads_of, Within, is_left_open, uninitialised}
+use Rattle.net_core.specs.Depends.{Within, is_left_open, uninitialised}
 use Rattle.net_core.specs.WidthRules.{Use, uses, reset_uses, value_uses}
 use Rattle.net_core.specs.Formed.{Formed}
 

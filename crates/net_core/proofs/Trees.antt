@@ -1,9 +1,7 @@
 -- The definitions by folds, an equation for each variant.
-use Rattle.std.proofs.Common.{◌≡◌, ◌∙◌, sym, ap, ℕ, Bool, List, ◌∷◌, Option, map, refl}
-use Rattle.tb_base.specs.Word.{Word}
+use Rattle.std.proofs.Common.{◌≡◌, ◌∙◌, sym, ap, ℕ, Bool, List, ◌∷◌, Option, map}
 use Rattle.tb_base.specs.declared.op.Op.{Op}
 use Rattle.net_core.specs.declared.ports.Signal.{Signal}
-use Rattle.net_core.specs.declared.tree.SignalInfo.{SignalInfo}
 use Rattle.net_core.specs.declared.tree.GroundExpr.{GroundExpr}
 use Rattle.net_core.specs.declared.tree.GroundExpr.TheVariants.{Read, Lit, Apply, Select, IndexIs, rolls-Read, rolls-Lit, rolls-Apply, rolls-Select, rolls-IndexIs}
 use Rattle.net_core.specs.declared.tree.GroundExpr.TheFolds.{fold-GroundExpr, fold-roll-GroundExpr}

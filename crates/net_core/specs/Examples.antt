@@ -1,21 +1,20 @@
 -- Worked examples: what the definitions say of circuits that a reader can follow.
-use Rattle.std.specs.Prelude.{ℕ, ◌≡◌, Bool, false, true, Some, None, Option, List, [], ◌∷◌, ◌++◌, codes, map, slice_index}
+use Rattle.std.specs.Prelude.{ℕ, ◌≡◌, false, true, Some, None, Option, List, [], ◌∷◌, codes, map, slice_index}
 use Rattle.tb_base.specs.declared.op.Op.TheVariants.{Add, Bits, Mux}
 use Rattle.net_core.specs.declared.ports.Signal.{Signal}
 use Rattle.net_core.specs.declared.tree.Role.{Role}
-use Rattle.net_core.specs.declared.tree.Role.TheVariants.{Input, Output, Inner, Node, Reg}
+use Rattle.net_core.specs.declared.tree.Role.TheVariants.{Input, Output, Inner, Reg}
 use Rattle.net_core.specs.declared.tree.SignalInfo.{SignalInfo}
 use Rattle.net_core.specs.declared.tree.GroundExpr.{GroundExpr}
-use Rattle.net_core.specs.declared.tree.GroundExpr.TheVariants.{Read, Lit, Apply, Select, IndexIs}
+use Rattle.net_core.specs.declared.tree.GroundExpr.TheVariants.{Read, Lit, Apply, Select}
 use Rattle.net_core.specs.declared.tree.Ground.{Ground}
 use Rattle.net_core.specs.declared.tree.Ground.TheVariants.{Declare, Set, When}
 use Rattle.net_core.specs.declared.tree.Elab.{Elab}
 use Rattle.net_core.specs.Shapes.{shape, literal_width}
 use Rattle.net_core.specs.Settled.{rule, edge}
-use Rattle.net_core.specs.Depends.{reads_of, Leads, uninitialised}
+use Rattle.net_core.specs.Depends.{reads_of, uninitialised}
 use Rattle.net_core.specs.WidthRules.{judged, wide_signals, uses, least_line, first_rule, too_wide, bad_range}
 use Rattle.net_core.specs.Body.{body_of}
-use Rattle.net_core.specs.Ports.{ports_from}
 
 -- short names
 
@@ -25,10 +24,10 @@ s k = record { 0 = k }
 abbrev pub r : ℕ → GroundExpr
 r k = Read (s k)
 
-abbrev uint : List ℕ → Role → Option ℕ → ℕ → SignalInfo
+abbrev pub uint : List ℕ → Role → Option ℕ → ℕ → SignalInfo
 uint name role width line = record { name = name; role = role; signed = false; width = width; line = line }
 
-abbrev sint : List ℕ → Role → Option ℕ → ℕ → SignalInfo
+abbrev pub sint : List ℕ → Role → Option ℕ → ℕ → SignalInfo
 sint name role width line = record { name = name; role = role; signed = true; width = width; line = line }
 
 abbrev pub one_bit : ℕ → GroundExpr

@@ -8,13 +8,12 @@ use Rattle.net_core.specs.declared.tree.GroundExpr.TheFolds.{fold-GroundExpr, ma
 use Rattle.net_core.specs.declared.tree.GroundExpr.TheOpen.{GroundExpr-F}
 use Rattle.net_core.specs.declared.tree.GroundReset.{GroundReset}
 use Rattle.net_core.specs.declared.tree.Elab.{Elab}
-use Rattle.net_core.specs.declared.tree.Role.TheVariants.{Input}
 use Rattle.net_core.specs.Signals.{info, is_input, is_port, is_node, is_register, given_width}
 use Rattle.net_core.specs.Shapes.{Shape, shape, shape_at, level_shape}
 use Rattle.net_core.specs.Values.{mentions}
 use Rattle.net_core.specs.Body.{Body, done, declare, set, when, body_of, whens, depth}
-use Rattle.net_core.specs.Widths.{Asked, sources}
-use Rattle.net_core.specs.WidthRules.{parts, Use, uses, width_rule}
+use Rattle.net_core.specs.Widths.{sources}
+use Rattle.net_core.specs.WidthRules.{parts, uses, width_rule}
 
 -- expressions
 

@@ -1,5 +1,5 @@
 -- Connects: the last one that holds, what a sink reads, and whether each branch has one.
-use Rattle.std.specs.Prelude.{ℕ, Bool, true, false, Option, Some, None, List, ◌||◌, ◌&&◌, nat_eq, if◌then◌else◌}
+use Rattle.std.specs.Prelude.{ℕ, Bool, false, Option, Some, None, List, ◌||◌, ◌&&◌, nat_eq, if◌then◌else◌}
 use Rattle.tb_base.specs.Word.{Word}
 use Rattle.tb_base.specs.Row.{no_word}
 use Rattle.net_core.specs.declared.tree.SignalInfo.{SignalInfo}

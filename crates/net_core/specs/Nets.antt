@@ -1,5 +1,5 @@
 -- Nets: lists of choices, what they give and read, and what it is to meet a net's equations.
-use Rattle.std.specs.Prelude.{◌≡◌, ℕ, ◌<◌, Bool, true, false, List, [], ◌∷◌, Option, Some, None, unwrap_or, ◌||◌, ◌&&◌, nat_eq, if◌then◌else◌, map, length, slice_index_or, slice_index}
+use Rattle.std.specs.Prelude.{◌≡◌, ℕ, ◌<◌, Bool, true, false, List, [], ◌∷◌, Option, Some, None, unwrap_or, ◌||◌, ◌&&◌, nat_eq, if◌then◌else◌, map, length, slice_index_or}
 use Rattle.tb_base.specs.Word.{Word}
 use Rattle.tb_base.specs.Row.{no_word}
 use Rattle.net_core.specs.declared.tree.SignalInfo.{SignalInfo}
@@ -13,7 +13,6 @@ use Rattle.net_core.specs.declared.tree.Net.{Net}
 use Rattle.net_core.specs.Signals.{info}
 use Rattle.net_core.specs.Last.{source, source_mentions}
 use Rattle.net_core.specs.Settled.{fitted, connected}
-use Rattle.net_core.specs.Values.{word_of}
 
 -- a list of choices as one plain type: each is followed by the rest of its list
 pub data Choices : Type 0 where

@@ -1,5 +1,5 @@
 -- Signedness and width of expressions.
-use Rattle.std.specs.Prelude.{ℕ, ◌+◌, ◌-◌, max, min, Bool, true, false, List, [], ◌∷◌, map, slice_index, slice_index_or, unwrap_or, if◌then◌else◌}
+use Rattle.std.specs.Prelude.{ℕ, ◌+◌, ◌-◌, max, min, Bool, true, false, List, [], ◌∷◌, map, slice_index, slice_index_or, unwrap_or}
 use Rattle.std.specs.Int.Count.{count_leading_zeros}
 use Rattle.tb_base.specs.Row.{row_signed, leading, width_of}
 use Rattle.net_core.specs.declared.tree.SignalInfo.{SignalInfo}

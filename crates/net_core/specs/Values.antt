@@ -1,5 +1,5 @@
 -- What an expression is worth, and what it mentions.
-use Rattle.std.specs.Prelude.{ℕ, ℤ, pos, ◌-ℤ◌, ◌^◌, Bool, true, false, List, [], ◌∷◌, ◌||◌, ◌==◌, nat_eq, slice_index, slice_index_or, unwrap_or, map, if◌then◌else◌}
+use Rattle.std.specs.Prelude.{ℕ, ℤ, pos, ◌-ℤ◌, Bool, false, List, [], ◌∷◌, ◌||◌, ◌==◌, nat_eq, slice_index, slice_index_or, unwrap_or, map, if◌then◌else◌}
 use Rattle.tb_base.specs.Word.{Word, cut, value_of}
 use Rattle.tb_base.specs.Row.{row_word, no_word, flag}
 use Rattle.net_core.specs.declared.tree.SignalInfo.{SignalInfo}

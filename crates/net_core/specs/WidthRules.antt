@@ -1,5 +1,5 @@
 -- The two rules on widths, as the lines that break them: a width above 128, and a number or a condition out of its range.
-use Rattle.std.specs.Prelude.{ℕ, Bool, true, false, not, ◌&&◌, ◌||◌, ◌==◌, nat_lt, nat_le, if◌then◌else◌, min, List, [], ◌∷◌, ◌++◌, map, filter, flat_map, Option, Some, None, slice_index}
+use Rattle.std.specs.Prelude.{ℕ, Bool, true, false, not, ◌&&◌, ◌||◌, ◌==◌, nat_lt, nat_le, if◌then◌else◌, min, List, [], ◌∷◌, ◌++◌, map, filter, Option, Some, None, slice_index}
 use Rattle.tb_base.specs.Row.{in_range}
 use Rattle.tb_base.specs.declared.op.Op.{Op}
 use Rattle.tb_base.specs.declared.op.Op.TheVariants.{Mux}

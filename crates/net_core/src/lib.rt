@@ -17,7 +17,11 @@ mod tests;
 mod tree;
 
 pub use engine::Engine;
-pub use examples::{the_reads_work_out, the_values_work_out, the_widths_work_out};
+pub use examples::{
+    the_cones_work_out, the_delays_work_out, the_forms_work_out, the_least_widths_work_out,
+    the_paths_work_out, the_queue_works_out, the_reads_work_out, the_values_work_out,
+    the_widths_work_out,
+};
 pub use laws::{
     a_value_depends_on_its_cone, each_sink_has_a_connect, exactly_one_is_settled,
     plain_evaluation_settles,
