@@ -1,8 +1,9 @@
 -- What the code builds is the net.
-use Rattle.std.proofs.Common.{◌≡◌, ◌∙◌, sym, ap, subst, ℕ, zero, suc, ◌+◌, ◌-◌, ◌<◌, ◌≤◌, ◌^◌, ◌++◌, List, [], ◌∷◌, Option, Some, None, Bool, true, false, cond, length, map, arith, refl, nat_eq, ⊎_elim, Result, Ok, Err}
+use Rattle.std.proofs.Common.{◌≡◌, ◌∙◌, sym, ap, subst, ℕ, zero, suc, ◌+◌, ◌-◌, ◌<◌, ◌≤◌, ◌^◌, ◌++◌, List, [], ◌∷◌, Option, Some, None, is_some, Bool, true, false, cond, length, map, arith, refl, nat_eq, ⊎_elim, Result, Ok, Err}
 use Rattle.std.specs.Prelude.{unwrap_or, IfOk, OnOk}
 use Rattle.std.specs.List.{All}
 use Rattle.std.proofs.lemmas.Bool.{cases_order}
+use Rattle.std.proofs.lemmas.List.Elements.{All-head, All-tail, All-nil, All-cons}
 use Rattle.tb_base.specs.Word.{Word, value_of}
 use Rattle.tb_base.specs.Row.{no_word}
 use Rattle.tb_base.proofs.Words.{low_bits-lt}
@@ -219,6 +220,23 @@ one_bits e s V h =
     asked_each (λ c. is_one_bit (value e.signals c V)) e (length e.signals)
     (uses_fit e s V (λ k d l y m. h y (s.formed.read k d l y m)))
 
+conditions_read : (e : Elab) (net : Net) → Built e net → Formed e → (k y : ℕ) → k < length net.signals → length e.signals ≤ k → net_reads net k y ≡ true → y < length e.signals
+conditions_read e net b f k y = by_side e net b f (λ z. length e.signals ≤ z → net_reads net z y ≡ true → y < length e.signals)
+    (λ z l m h. absurd (apart z l m))
+    (λ j c d m h. d.over y (sym (cond_reads e net y j c d) ∙ h)) k
+  where
+    apart : (z : ℕ) → z < length e.signals → length e.signals ≤ z → ⊥
+    apart z l m = absurd (omega (arith, l, m))
+
+append_all : (P : SignalInfo → Type 0) (cs : List GroundExpr) (is : List SignalInfo) → P condition_signal → All P is → All P (is ++ map (λ c. condition_signal) cs)
+append_all P [] [] p h = All-nil P
+append_all P (c ∷ cs) [] p h = All-cons P condition_signal (map (λ c. condition_signal) cs) p (append_all P cs [] p h)
+append_all P cs (i ∷ is) p h =
+    All-cons P i (is ++ map (λ c. condition_signal) cs) (All-head P i is h) (append_all P cs is p (All-tail P i is h))
+
+all_given : (e : Elab) (net : Net) → Built e net → Sized e → All (λ i. is_some i.width ≡ true) net.signals
+all_given e net b s = subst (All (λ i. is_some i.width ≡ true)) (sym b.signals) (append_all (λ i. is_some i.width ≡ true) (asked e) e.signals refl s.given)
+
 is_reg : (r : Role) → is_register r ≡ true → r ≡ Reg
 is_reg Reg h = refl
 is_reg Input h = cc
@@ -230,11 +248,15 @@ pub net_of : (e : Elab) (net : Net) → Built e net → Sized e → NetOf e net
 net_of e net b s = record {
   own = b.own;
   signals = b.signals;
+  given = all_given e net b s;
   equations = length-made e net b;
   kinds = kinds e net b s.formed;
-  met = λ ins regs V w m. met e net b s.formed ins regs V (one_bits e s V (met_narrow e net b ins regs V w m)) m;
-  meets = λ ins regs V w t h. meets e net b s.formed ins regs V (one_bits e s V (settled_narrow e ins regs V w t)) t h;
+  meets = λ ins regs V w. (
+    (λ m. met e net b s.formed ins regs V (one_bits e s V (met_narrow e net b ins regs V w m)) m),
+    (λ p. meets e net b s.formed ins regs V (one_bits e s V (settled_narrow e ins regs V w p.0)) p.0 p.1),
+  );
   next = λ V h x old l g. next e net b s.formed V h x old l (is_reg (info e.signals x).role g);
   reads = λ x y l m. (reads_no_more e net b s.formed x y l m, reads_no_less e net b s.formed x y l);
+  conditions_read = λ k y l m. conditions_read e net b s.formed k y m l;
   within = within e net b s.formed;
 }

@@ -1,5 +1,6 @@
 -- The net of an elaborated circuit: its conditions have signals of their own, and it means the same.
 use Rattle.std.specs.Prelude.{◌≡◌, ◌↔◌, ℕ, ◌+◌, ◌<◌, ◌≤◌, ◌^◌, Bool, true, false, List, [], ◌∷◌, ◌++◌, Option, Some, None, is_some, map, length}
+use Rattle.std.specs.List.{All}
 use Rattle.tb_base.specs.Word.{Word, low_bits, value_of}
 use Rattle.net_core.specs.declared.tree.SignalInfo.{SignalInfo}
 use Rattle.net_core.specs.declared.tree.Role.{Role}
@@ -74,16 +75,17 @@ pub record NetOf (e : Elab) (net : Net) : Type 0 where
   -- the circuit's signals, then the conditions'
   pub own : net.own ≡ length e.signals
   pub signals : net.signals ≡ e.signals ++ map (λ c. condition_signal) (asked e)
+  pub given : All (λ i. is_some i.width ≡ true) net.signals
   -- an equation for each
   pub equations : length net.equations ≡ length net.signals
   pub kinds : (x : ℕ) → x < length net.signals → HasKind (info net.signals x).role (nets.equation net x)
   -- a valuation meets them exactly where it is settled and the conditions' signals have their values
-  pub met : (ins regs V : ℕ → ℕ) → InWidth e ins regs → MeetsNet net ins regs V → Settled e ins regs V × Conditions e V
-  pub meets : (ins regs V : ℕ → ℕ) → InWidth e ins regs → Settled e ins regs V → Conditions e V → MeetsNet net ins regs V
+  pub meets : (ins regs V : ℕ → ℕ) → InWidth e ins regs → MeetsNet net ins regs V ↔ (Settled e ins regs V × Conditions e V)
   -- at the edge each register gets what the circuit says
   pub next : (V : ℕ → ℕ) → Conditions e V → (x old : ℕ) → x < length e.signals → is_register (info e.signals x).role ≡ true
       → next_value net x V old ≡ edge e V x old
   -- each of the circuit's signals reads in it what it reads
   pub reads : (x y : ℕ) → x < length e.signals → y < length e.signals → ReadsOver net x y ↔ (reads_of e x y ≡ true)
-  -- and what is read is one of its signals
+  -- a condition's signal reads signals of the circuit, and whatever is read is a signal of the net
+  pub conditions_read : (k y : ℕ) → length e.signals ≤ k → k < length net.signals → net_reads net k y ≡ true → y < length e.signals
   pub within : (x y : ℕ) → x < length net.signals → net_reads net x y ≡ true → y < length net.signals

@@ -114,9 +114,9 @@ fn the_last_connect_wins(rt: HostRuntime) -> Result<(), Fail> {
     assert_eq!(rt; net.own, 4);
     assert_eq!(rt; net.equations.items().len(), 4);
     let text = shown(alloc, &net, 0).ok().ok_or("no memory")?;
-    assert!(rt; text.as_slice() == b"input");
+    assert!(rt; text.as_slice() == b"input".as_slice());
     let text = shown(alloc, &net, 3).ok().ok_or("no memory")?;
-    assert!(rt; text.as_slice() == b"1 ");
+    assert!(rt; text.as_slice() == b"1 ".as_slice());
     Ok(())
 }
 
@@ -134,9 +134,9 @@ fn a_when_stands_behind_what_was_before(rt: HostRuntime) -> Result<(), Fail> {
     let net = resolve(alloc, &elab).ok().ok_or("no net")?;
     assert_eq!(rt; net.signals.items().len(), 6);
     let text = shown(alloc, &net, 3).ok().ok_or("no memory")?;
-    assert!(rt; text.as_slice() == b"- 4?(5?(2 |) |) ");
+    assert!(rt; text.as_slice() == b"- 4?(5?(2 |) |) ".as_slice());
     let text = shown(alloc, &net, 5).ok().ok_or("no memory")?;
-    assert!(rt; text.as_slice() == b"1 ");
+    assert!(rt; text.as_slice() == b"1 ".as_slice());
     Ok(())
 }
 
@@ -153,7 +153,7 @@ fn both_sides_replace_what_was_before(rt: HostRuntime) -> Result<(), Fail> {
     let elab = circuit(alloc, &ROLES, body).ok().ok_or("no memory")?;
     let net = resolve(alloc, &elab).ok().ok_or("no net")?;
     let text = shown(alloc, &net, 3).ok().ok_or("no memory")?;
-    assert!(rt; text.as_slice() == b"4?(1 |2 ) ");
+    assert!(rt; text.as_slice() == b"4?(1 |2 ) ".as_slice());
     Ok(())
 }
 
@@ -166,9 +166,9 @@ fn a_reset_is_the_last_choice(rt: HostRuntime) -> Result<(), Fail> {
     let elab = circuit(alloc, &roles, body).ok().ok_or("no memory")?;
     let net = resolve(alloc, &elab).ok().ok_or("no net")?;
     let text = shown(alloc, &net, 2).ok().ok_or("no memory")?;
-    assert!(rt; text.as_slice() == b"1 3?(1 |) ");
+    assert!(rt; text.as_slice() == b"1 3?(1 |) ".as_slice());
     let text = shown(alloc, &net, 3).ok().ok_or("no memory")?;
-    assert!(rt; text.as_slice() == b"0 ");
+    assert!(rt; text.as_slice() == b"0 ".as_slice());
     Ok(())
 }
 
