@@ -28,7 +28,7 @@ use Rattle.net_core.specs.WidthRules.{uses}
 use Rattle.net_core.proofs.FormedFacts.{own_uses}
 use Rattle.net_resolve.specs.declared.join.Found.{Found}
 use Rattle.net_resolve.specs.Joint.{or_none}
-use Rattle.net_resolve.specs.Resolved.{Each, asked, condition_signal, resets_from, Conditions, OneBits, is_one_bit}
+use Rattle.net_resolve.specs.Resolved.{Each, asked, condition_signal, resets_from, Conditions}
 use Rattle.net_resolve.specs.Pass.{equation_of, with_reset, condition_equation}
 use Rattle.net_resolve.proofs.Numbering.{Numbered, Worth, each-left, each-right, numbered}
 use Rattle.net_resolve.proofs.Homes.{place, place_from}
@@ -36,6 +36,7 @@ use Rattle.net_resolve.proofs.Fits.{one_take, push_when}
 use Rattle.net_resolve.proofs.Seen.{seen, append, chosen-append, seen_chosen}
 use Rattle.net_resolve.proofs.Bounds.{Over, Bounded, seen_bounded}
 use Rattle.net_resolve.proofs.Alike.{alike, chosen_alike}
+use Rattle.net_resolve.proofs.Sound.{OneBits, is_one_bit}
 use Rattle.net_resolve.proofs.AskedFacts.{OnReset, reset_uses_of}
 use Rattle.net_resolve.proofs.Resolving.{table_of, reset_at, reset_is, seen_of, table_fits, numbered_own, number_at, resets_alike, each_reset}
 use Rattle.net_resolve.proofs.Built.{Built, Cond, conds_of, first_reset, info_own, equation_own, length-net, each_to, each_and, each_get}

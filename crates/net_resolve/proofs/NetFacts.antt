@@ -31,13 +31,13 @@ use Rattle.net_resolve.specs.declared.join.Found.{Found}
 use Rattle.net_resolve.specs.Joint.{or_none}
 use Rattle.net_resolve.specs.Walk.{found, leaving, inner}
 use Rattle.net_resolve.specs.Resets.{resets}
-use Rattle.net_resolve.specs.Resolved.{Each, asked, condition_signal, reset_signal, resets_from, Conditions, OneBits, InWidth, is_one_bit, HasKind, NetOf, ReadsOver}
+use Rattle.net_resolve.specs.Resolved.{Each, asked, condition_signal, reset_signal, resets_from, Conditions, InWidth, HasKind, NetOf, ReadsOver}
 use Rattle.net_resolve.specs.Pass.{equation_of, equations_from, is_open, first_open, condition_equation}
 use Rattle.net_resolve.proofs.Numbering.{Numbered}
 use Rattle.net_resolve.proofs.Homes.{place}
 use Rattle.net_resolve.proofs.Bounds.{Over}
 use Rattle.net_resolve.proofs.Tops.{Topped, seen_topped, read_under}
-use Rattle.net_resolve.proofs.Sound.{uses_fit}
+use Rattle.net_resolve.proofs.Sound.{OneBits, is_one_bit, uses_fit}
 use Rattle.net_resolve.proofs.AskedFacts.{asked_each}
 use Rattle.net_resolve.proofs.Resolving.{table_of, reset_at, reset_is, seen_of, table_fits, open_first, number_at, resets_alike}
 use Rattle.net_resolve.proofs.Built.{Built, Cond, conds_of, first_reset, info_own, equation_own, length-net, length-made, each_to, each_get}

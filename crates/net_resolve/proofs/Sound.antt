@@ -20,7 +20,15 @@ use Rattle.net_core.specs.WidthRules.{Judged, parts, judged, level_judged, Use, 
 use Rattle.net_core.specs.Body.{body_of}
 use Rattle.net_core.specs.Formed.{Sized, given_widths}
 use Rattle.net_core.proofs.ExprFacts.{value_roll, mentions_roll}
-use Rattle.net_resolve.specs.Resolved.{is_one_bit}
+use Rattle.net_resolve.specs.Resolved.{Each, asked}
+
+-- the value fits one bit
+abbrev pub is_one_bit : Word → Type 0
+is_one_bit w = low_bits 1 (value_of w) ≡ w.raw
+
+-- as do those of all conditions and resets
+abbrev pub OneBits : Elab → (ℕ → ℕ) → Type 0
+OneBits e V = Each (λ k c. is_one_bit (value e.signals c V)) (length e.signals) (asked e)
 
 abbrev pub shape_of : Word → Shape
 shape_of w = record { signed = w.signed; width = w.width }

@@ -1,7 +1,6 @@
 -- The net of an elaborated circuit: its conditions have signals of their own, and it means the same.
 use Rattle.std.specs.Prelude.{◌≡◌, ◌↔◌, ℕ, ◌+◌, ◌<◌, ◌≤◌, ◌^◌, Bool, true, false, List, [], ◌∷◌, ◌++◌, Option, Some, None, is_some, map, length}
 use Rattle.std.specs.List.{All}
-use Rattle.tb_base.specs.Word.{Word, low_bits, value_of}
 use Rattle.net_core.specs.declared.tree.SignalInfo.{SignalInfo}
 use Rattle.net_core.specs.declared.tree.Role.{Role}
 use Rattle.net_core.specs.declared.tree.Role.TheVariants.{Input, Output, Inner, Node, Reg}
@@ -46,13 +45,6 @@ condition_signal = record { name = []; role = Node; signed = false; width = Some
 -- each condition signal has its condition's value
 abbrev pub Conditions : Elab → (ℕ → ℕ) → Type 0
 Conditions e V = Each (λ k c. V k ≡ (value e.signals c V).raw) (length e.signals) (asked e)
-
--- the value fits one bit
-abbrev pub is_one_bit : Word → Type 0
-is_one_bit w = low_bits 1 (value_of w) ≡ w.raw
-
-abbrev pub OneBits : Elab → (ℕ → ℕ) → Type 0
-OneBits e V = Each (λ k c. is_one_bit (value e.signals c V)) (length e.signals) (asked e)
 
 -- inputs and registers have no more bits than their widths say
 abbrev pub InWidth : Elab → (ins regs : ℕ → ℕ) → Type 0
