@@ -1,5 +1,5 @@
 -- An expression's value depends on the signals that it mentions: other lists of signals serve as well.
-use Rattle.std.proofs.Common.{◌≡◌, ◌∙◌, sym, ap, ℕ, ◌<◌, ◌≤◌, Bool, true, false, List, [], ◌∷◌, ◌||◌, ◌==◌, refl, map, subst, nat_eq, Option, Some, None, cond, ⊎_elim}
+use Rattle.std.proofs.Common.{◌≡◌, ◌∙◌, sym, ap, ℕ, ◌<◌, Bool, true, false, List, [], ◌∷◌, ◌==◌, refl, map, subst, nat_eq, Option, Some, None, cond}
 use Rattle.std.proofs.lemmas.Bool.{or_left, or_right, eq-eqb}
 use Rattle.std.specs.Prelude.{slice_index}
 use Rattle.tb_base.specs.Word.{Word, cut, value_of}

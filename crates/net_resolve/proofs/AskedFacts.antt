@@ -1,5 +1,5 @@
 -- What holds of a body's expressions holds of its conditions and of its resets.
-use Rattle.std.proofs.Common.{◌≡◌, ◌∙◌, sym, ap, subst, ℕ, zero, suc, ◌+◌, ◌<◌, ◌++◌, List, [], ◌∷◌, Option, Some, None, Bool, true, false, cond, length, nat_eq, refl}
+use Rattle.std.proofs.Common.{◌≡◌, ℕ, ◌+◌, ◌++◌, List, [], ◌∷◌, Option, Some, None, Bool, true, false, cond, length, nat_eq, refl}
 use Rattle.std.specs.List.{All}
 use Rattle.std.proofs.lemmas.List.Elements.{All-head, All-tail}
 use Rattle.net_core.specs.declared.tree.SignalInfo.{SignalInfo}
@@ -8,7 +8,7 @@ use Rattle.net_core.specs.declared.tree.GroundReset.{GroundReset}
 use Rattle.net_core.specs.declared.tree.Elab.{Elab}
 use Rattle.net_core.specs.declared.tree.Role.{Role}
 use Rattle.net_core.specs.declared.tree.Role.TheVariants.{Input, Output, Inner, Node, Reg}
-use Rattle.net_core.specs.Body.{Body, done, declare, set, when, whens, body_of, conditions}
+use Rattle.net_core.specs.Body.{Body, done, declare, set, when, body_of, conditions}
 use Rattle.net_core.specs.Last.{or_else, reset_of}
 use Rattle.net_core.specs.WidthRules.{Use, uses, reset_uses, value_uses}
 use Rattle.net_core.proofs.FormedFacts.{All-left, All-right}
@@ -25,13 +25,14 @@ conditions_each Q n (declare y line reset rest) h = conditions_each Q n rest (Al
 conditions_each Q n (set line y e rest) h = conditions_each Q n rest (All-right (Asks Q) (value_uses line e) (uses rest) h)
 conditions_each Q n (when line c t o rest) h =
     let k = All-tail (Asks Q) _ (uses t ++ (uses o ++ uses rest)) h in
-    let u = All-right (Asks Q) (uses t) (uses o ++ uses rest) k in
-    (All-head (Asks Q) _ (uses t ++ (uses o ++ uses rest)) h refl,
-    each-append (λ k c. Q c) (n + 1) (conditions t) (conditions o ++ conditions rest)
-    (conditions_each Q (n + 1) t (All-left (Asks Q) (uses t) (uses o ++ uses rest) k))
-    (each-append (λ k c. Q c) (n + 1 + length (conditions t)) (conditions o) (conditions rest)
-    (conditions_each Q (n + 1 + length (conditions t)) o (All-left (Asks Q) (uses o) (uses rest) u))
-    (conditions_each Q (n + 1 + length (conditions t) + length (conditions o)) rest (All-right (Asks Q) (uses o) (uses rest) u))))
+    let u = All-right (Asks Q) (uses t) (uses o ++ uses rest) k in (
+      All-head (Asks Q) _ (uses t ++ (uses o ++ uses rest)) h refl,
+      each-append (λ k c. Q c) (n + 1) (conditions t) (conditions o ++ conditions rest)
+          (conditions_each Q (n + 1) t (All-left (Asks Q) (uses t) (uses o ++ uses rest) k))
+          (each-append (λ k c. Q c) (n + 1 + length (conditions t)) (conditions o) (conditions rest)
+          (conditions_each Q (n + 1 + length (conditions t)) o (All-left (Asks Q) (uses o) (uses rest) u))
+          (conditions_each Q (n + 1 + length (conditions t) + length (conditions o)) rest (All-right (Asks Q) (uses o) (uses rest) u))),
+    )
 
 -- the expressions of a reset that is there
 abbrev pub OnReset : (Use → Type 0) → Option GroundReset → Type 0

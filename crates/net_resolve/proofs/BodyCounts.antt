@@ -1,5 +1,5 @@
 -- How many conditions a body has.
-use Rattle.std.proofs.Common.{◌≡◌, ℕ, ◌++◌, length, refl, arith, length-append}
+use Rattle.std.proofs.Common.{◌≡◌, ◌++◌, length, refl, arith, length-append}
 use Rattle.net_core.specs.Body.{Body, done, declare, set, when, whens, conditions}
 
 pub length-conditions : (b : Body) → length (conditions b) ≡ whens b

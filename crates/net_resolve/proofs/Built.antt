@@ -1,10 +1,8 @@
 -- The net that the code builds, and what its equations are.
-use Rattle.std.proofs.Common.{◌≡◌, ◌∙◌, sym, ap, subst, ℕ, zero, suc, ◌+◌, ◌-◌, ◌<◌, ◌≤◌, ◌++◌, List, [], ◌∷◌, Option, Some, None, Bool, true, false, cond, length, get_or, map, arith, refl, length-append, append_assoc}
+use Rattle.std.proofs.Common.{◌≡◌, ◌∙◌, sym, ap, subst, ℕ, zero, suc, ◌+◌, ◌<◌, ◌≤◌, ◌++◌, List, [], ◌∷◌, true, length, get_or, map, arith, refl, length-append, append_assoc}
 use Rattle.std.proofs.lemmas.List.{get_or_append_left}
 use Rattle.std.proofs.Math.Seq.{get_or-append_seam}
-use Rattle.net_core.specs.declared.tree.SignalInfo.{SignalInfo}
 use Rattle.net_core.specs.declared.tree.GroundExpr.{GroundExpr}
-use Rattle.net_core.specs.declared.tree.GroundReset.{GroundReset}
 use Rattle.net_core.specs.declared.tree.Equation.{Equation}
 use Rattle.net_core.specs.declared.tree.Elab.{Elab}
 use Rattle.net_core.specs.declared.tree.Net.{Net}
@@ -14,7 +12,6 @@ use Rattle.net_core.specs.Body.{body_of, conditions}
 use Rattle.net_core.specs.Nets.{no_equation}
 use Rattle.net_core.specs.Nets as nets
 use Rattle.net_core.specs.Formed.{Formed}
-use Rattle.net_resolve.specs.declared.join.Found.{Found}
 use Rattle.net_resolve.specs.Joint.{or_none}
 use Rattle.net_resolve.specs.Resolved.{Each, asked, condition_signal}
 use Rattle.net_resolve.specs.Pass.{equation_of, equations_from, condition_equation}
@@ -65,10 +62,11 @@ each_get P n (c ∷ cs) (suc i) h l =
 pub each_behind : {A : Type 0} (f : GroundExpr → A) (d : A) (front : List A) (cs : List GroundExpr)
     → Each (λ k c. (get_or (front ++ map f cs) k d ≡ f c) × (k < length front + length cs)) (length front) cs
 each_behind f d front [] = tt
-each_behind {A} f d front (c ∷ cs) =
-    ((get_or-append_seam front (f c) (map f cs) d, near (length front) (length cs)),
-    subst (λ m. Each (λ k c. (get_or (front ++ f c' ∷ map f cs) k d ≡ f c) × (k < length front + suc (length cs))) m cs) one
-    (each_to _ _ (length (front ++ f c ∷ [])) cs (λ k z h. (subst (λ l. get_or l k d ≡ f z) (append_assoc front (f c ∷ []) (map f cs)) h.0, far k h.1)) (each_behind f d (front ++ f c ∷ []) cs)))
+each_behind {A} f d front (c ∷ cs) = (
+  (get_or-append_seam front (f c) (map f cs) d, near (length front) (length cs)),
+  subst (λ m. Each (λ k c. (get_or (front ++ f c' ∷ map f cs) k d ≡ f c) × (k < length front + suc (length cs))) m cs) one
+      (each_to _ _ (length (front ++ f c ∷ [])) cs (λ k z h. (subst (λ l. get_or l k d ≡ f z) (append_assoc front (f c ∷ []) (map f cs)) h.0, far k h.1)) (each_behind f d (front ++ f c ∷ []) cs)),
+)
   where
     c' : GroundExpr
     c' = c
@@ -116,7 +114,7 @@ pub conds_of : (e : Elab) (net : Net) → Built e net → Formed e → Each (Con
 conds_of e net b f =
     let n = length e.signals in
     let p = subst (λ m. Each (λ k c. (get_or (own_equations e ++ map condition_equation (asked e)) k no_equation ≡ condition_equation c) × (k < length (own_equations e) + length (asked e))) m (asked e)) (length-own e)
-      (each_behind condition_equation no_equation (own_equations e) (asked e)) in
+    (each_behind condition_equation no_equation (own_equations e) (asked e)) in
     let q = each_behind (λ c. condition_signal) no_info e.signals (asked e) in
     let o = asked_each (λ c. (y : ℕ) → mentions c y ≡ true → y < n) e n (λ k d l r. f.read k d l) in
     each_to _ (Cond e net) n (asked e) (λ k c h. record {

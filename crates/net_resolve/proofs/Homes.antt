@@ -1,14 +1,13 @@
 -- What the table has for a signal that is declared once, in scope of its connects.
-use Rattle.std.proofs.Common.{◌≡◌, ◌∙◌, sym, ap, subst, ℕ, zero, suc, ◌+◌, ◌≤◌, ◌++◌, Bool, true, false, ◌&&◌, ◌||◌, nat_eq, refl, Option, Some, None, is_some, cond, List, [], ◌∷◌, length, arith, length-append}
+use Rattle.std.proofs.Common.{◌≡◌, ◌∙◌, ap, subst, ℕ, zero, suc, ◌+◌, ◌≤◌, ◌++◌, Bool, true, false, ◌&&◌, ◌||◌, nat_eq, refl, Option, Some, None, is_some, cond, List, [], ◌∷◌, length, arith}
 use Rattle.std.proofs.lemmas.Bool.{or_parts, eqb-true}
 use Rattle.net_core.specs.declared.tree.GroundExpr.{GroundExpr}
 use Rattle.net_core.specs.declared.tree.GroundReset.{GroundReset}
 use Rattle.net_core.specs.Body.{Body, done, declare, set, when, whens}
-use Rattle.net_core.specs.Last.{or_else, home, own, sinks, reset_of}
+use Rattle.net_core.specs.Last.{or_else, home, sinks, reset_of}
 use Rattle.net_core.specs.Formed.{Declared, lines_of, in_scope, holds_number}
 use Rattle.net_core.specs.Formed as formed
 use Rattle.net_resolve.specs.declared.join.Found.{Found}
-use Rattle.net_resolve.specs.Joint.{joint_at}
 use Rattle.net_resolve.specs.Walk.{declares, kept, found, leaving, inner, or_old}
 use Rattle.net_resolve.specs.Resets.{resets}
 use Rattle.net_resolve.proofs.Numbering.{Numbered}
@@ -291,8 +290,8 @@ entered x n (when line c t o rest) known old s k h =
           at = rw (home_none x t ut, i.at) refl;
           once = i.once;
           table = leaving_same x rest _ _ ur ∙ inner_same x (n + 1 + whens t + whens o) rest _ ur
-            ∙ ap (λ z. leaving x o (found x (n + 1 + whens t) o None) (inner x (n + 1 + whens t) o z)) (leaving_same x t _ _ ut ∙ inner_same x (n + 1) t old ut)
-            ∙ i.table ∙ rw (home_none x t ut, i.at) refl;
+              ∙ ap (λ z. leaving x o (found x (n + 1 + whens t) o None) (inner x (n + 1 + whens t) o z)) (leaving_same x t _ _ ut ∙ inner_same x (n + 1) t old ut)
+              ∙ i.table ∙ rw (home_none x t ut, i.at) refl;
         }
     step (third a b d) st so go1 go2 go3 =
         let i = go3 d in
@@ -314,7 +313,7 @@ entered x n (when line c t o rest) known old s k h =
             home_none x t ut,
             home_none x o uo,
           )
-          i.table;
+              i.table;
         }
 
 or_else_none : (a : Option GroundReset) → or_else a None ≡ a

@@ -1,10 +1,9 @@
 -- The net's equations mean what the elaboration means.
-use Rattle.std.proofs.Common.{◌≡◌, ◌∙◌, sym, ap, subst, ℕ, zero, suc, ◌+◌, ◌-◌, ◌<◌, ◌≤◌, ◌^◌, ◌++◌, List, [], ◌∷◌, Option, Some, None, Bool, true, false, cond, length, map, arith, refl, nat_eq, ◌⊎◌, inl, inr, ⊎_elim}
+use Rattle.std.proofs.Common.{◌≡◌, ◌∙◌, sym, ap, subst, ℕ, ◌+◌, ◌-◌, ◌<◌, ◌≤◌, ◌++◌, List, [], ◌∷◌, Option, Some, None, Bool, true, false, cond, length, arith, refl, nat_eq, ⊎_elim}
 use Rattle.std.specs.Prelude.{unwrap_or}
-use Rattle.std.specs.List.{All}
 use Rattle.std.proofs.lemmas.List.Elements.{All-head, All-tail}
 use Rattle.std.proofs.lemmas.Bool.{cases_order}
-use Rattle.tb_base.specs.Word.{Word, low_bits, value_of}
+use Rattle.tb_base.specs.Word.{Word}
 use Rattle.tb_base.specs.Row.{no_word}
 use Rattle.net_core.specs.declared.tree.SignalInfo.{SignalInfo}
 use Rattle.net_core.specs.declared.tree.GroundExpr.{GroundExpr}
@@ -15,25 +14,23 @@ use Rattle.net_core.specs.declared.tree.Elab.{Elab}
 use Rattle.net_core.specs.declared.tree.Net.{Net}
 use Rattle.net_core.specs.declared.tree.Role.{Role}
 use Rattle.net_core.specs.declared.tree.Role.TheVariants.{Input, Output, Inner, Node, Reg}
-use Rattle.net_core.specs.declared.tree.Equation.{Equation}
 use Rattle.net_core.specs.Signals.{info}
 use Rattle.net_core.specs.Values.{value, mentions}
-use Rattle.net_core.specs.Body.{Body, body_of, conditions, whens}
-use Rattle.net_core.specs.Last.{own, holds, last, reset_of}
+use Rattle.net_core.specs.Body.{body_of, conditions}
+use Rattle.net_core.specs.Last.{own, holds, reset_of}
 use Rattle.net_core.specs.Settled.{Settled, rule, by_role, fitted, last_connect, edge, connected, reset_to}
 use Rattle.net_core.specs.Nets.{MeetsNet, by_equation, next_by, next_value, Choices, nothing, take, branch, chosen, choices_of}
 use Rattle.net_core.specs.Nets as nets
 use Rattle.net_core.specs.Formed.{Formed}
-use Rattle.net_core.specs.WidthRules.{uses}
 use Rattle.net_core.proofs.FormedFacts.{own_uses}
 use Rattle.net_resolve.specs.declared.join.Found.{Found}
 use Rattle.net_resolve.specs.Joint.{or_none}
 use Rattle.net_resolve.specs.Resolved.{Each, asked, condition_signal, resets_from, Conditions}
-use Rattle.net_resolve.specs.Pass.{equation_of, with_reset, condition_equation}
+use Rattle.net_resolve.specs.Pass.{equation_of, with_reset}
 use Rattle.net_resolve.proofs.Numbering.{Numbered, Worth, each-left, each-right, numbered}
 use Rattle.net_resolve.proofs.Homes.{place, place_from}
 use Rattle.net_resolve.proofs.Fits.{one_take, push_when}
-use Rattle.net_resolve.proofs.Seen.{seen, append, chosen-append, seen_chosen}
+use Rattle.net_resolve.proofs.Seen.{append, chosen-append, seen_chosen}
 use Rattle.net_resolve.proofs.Bounds.{Over, Bounded, seen_bounded}
 use Rattle.net_resolve.proofs.Alike.{alike, chosen_alike}
 use Rattle.net_resolve.proofs.Sound.{OneBits, is_one_bit}
@@ -76,10 +73,10 @@ same_rule : (e : Elab) (net : Net) → Built e net → Formed e → (ins regs V 
 same_rule e net b f ins regs V h x l =
     ap (λ q. by_equation q net.signals x ins regs V) (equation_own e net b x l)
     ∙ by_kind (info e.signals x).role (or_none (table_of (length e.signals) (body_of e.body) x)) (reset_at (body_of e.body) x)
-      (number_at (reset_at (body_of e.body)) 0 (first_reset e) e.signals x) net.signals x ins regs V
-      (fitted (info e.signals x) (unwrap_or (last_connect e V x) no_word))
-      (ap (λ i. fitted i (unwrap_or (chosen net.signals V (choices_of (or_none (table_of (length e.signals) (body_of e.body) x)).choices) None) no_word)) (info_own e net b x l)
-      ∙ ap (λ (o : Option Word). fitted (info e.signals x) (unwrap_or o no_word)) (own_chosen e net b f V h x l))
+    (number_at (reset_at (body_of e.body)) 0 (first_reset e) e.signals x) net.signals x ins regs V
+    (fitted (info e.signals x) (unwrap_or (last_connect e V x) no_word))
+    (ap (λ i. fitted i (unwrap_or (chosen net.signals V (choices_of (or_none (table_of (length e.signals) (body_of e.body) x)).choices) None) no_word)) (info_own e net b x l)
+    ∙ ap (λ (o : Option Word). fitted (info e.signals x) (unwrap_or o no_word)) (own_chosen e net b f V h x l))
 
 -- a condition's signal has its condition's value
 cond_worth : (e : Elab) (net : Net) → Built e net → (ins regs V : ℕ → ℕ) (k : ℕ) (c : GroundExpr) → Cond e net k c
@@ -103,7 +100,7 @@ less_net e net b x l = omega (arith, l, length-net e net b)
 pub met : (e : Elab) (net : Net) → Built e net → Formed e → (ins regs V : ℕ → ℕ) → OneBits e V → MeetsNet net ins regs V → Settled e ins regs V × Conditions e V
 met e net b f ins regs V o m =
     let h : Conditions e V = each_to (All-of e net V) (Worth e.signals V) (length e.signals) (asked e)
-      (λ k c p. m k p.0.below ∙ cond_worth e net b ins regs V k c p.0 p.1) (with_bits e net b f V o) in
+    (λ k c p. m k p.0.below ∙ cond_worth e net b ins regs V k c p.0 p.1) (with_bits e net b f V o) in
     ((λ x l. m x (less_net e net b x l) ∙ same_rule e net b f ins regs V h x l), h)
 
 pub meets : (e : Elab) (net : Net) → Built e net → Formed e → (ins regs V : ℕ → ℕ) → OneBits e V → Settled e ins regs V → Conditions e V → MeetsNet net ins regs V
@@ -127,7 +124,7 @@ meets e net b f ins regs V o s h x l = ⊎_elim
     behind : length e.signals ≤ x → V x ≡ by_equation (nets.equation net x) net.signals x ins regs V
     behind q =
         let g = each_get (λ k c. (V k ≡ (value e.signals c V).raw) × All-of e net V k c) (length e.signals) (asked e) (x - length e.signals)
-          (each_and (Worth e.signals V) (All-of e net V) (length e.signals) (asked e) h (with_bits e net b f V o)) (there q) in
+        (each_and (Worth e.signals V) (All-of e net V) (length e.signals) (asked e) h (with_bits e net b f V o)) (there q) in
         subst (λ k. V k ≡ by_equation (nets.equation net k) net.signals k ins regs V) (split q)
         (g.1.0 ∙ sym (cond_worth e net b ins regs V (length e.signals + (x - length e.signals)) g.0 g.1.1.0 g.1.1.1))
 
@@ -168,8 +165,8 @@ with_reset_is e net V x k (Some s) choices l old i h g =
     = push_when choices (record { 0 = k }) (Take (Some s.init) ∷ []) [] ∙ ap (λ t. append (choices_of choices) (branch k t nothing nothing)) (one_take (Some s.init)) in
     let d : chosen net.signals V (choices_of (choices ++ When (record { 0 = k }) (Take (Some s.init) ∷ []) [] ∷ [])) None ≡ cond (nat_eq (V k) 1) (Some (value net.signals s.init V)) l
     = ap (λ t. chosen net.signals V t None) c
-      ∙ chosen-append net.signals V (choices_of choices) (branch k (take (Some s.init) nothing) nothing nothing) None
-      ∙ ap (λ o. cond (nat_eq (V k) 1) (Some (value net.signals s.init V)) o) h in
+    ∙ chosen-append net.signals V (choices_of choices) (branch k (take (Some s.init) nothing) nothing nothing) None
+    ∙ ap (λ o. cond (nat_eq (V k) 1) (Some (value net.signals s.init V)) o) h in
     ap (λ z. connected z (chosen net.signals V (choices_of (choices ++ When (record { 0 = k }) (Take (Some s.init) ∷ []) [] ∷ [])) None) old) i
     ∙ ap (λ z. connected (info e.signals x) z old) d
     ∙ ap (λ n. connected (info e.signals x) (cond (nat_eq n 1) (Some (value net.signals s.init V)) l) old) w.0
@@ -190,6 +187,8 @@ next e net b f V h x old l g =
     ap (λ q. next_by q net.signals x V old) (equation_own e net b x l)
     ∙ ap (λ role. next_by (equation_of role found (reset_at body x) k) net.signals x V old) g
     ∙ with_reset_is e net V x k (reset_at body x) found.choices (last_connect e V x) old (info_own e net b x l) (own_chosen e net b f V h x l)
-      (λ s q. (reset_worth e f V h x l g s q,
-      alike net.signals e.signals V s.init (λ y m. info_own e net b y (init_over e f x s (sym (reset_is e f x l) ∙ q) y m))))
+    (λ s q. (
+      reset_worth e f V h x l g s q,
+      alike net.signals e.signals V s.init (λ y m. info_own e net b y (init_over e f x s (sym (reset_is e f x l) ∙ q) y m)),
+    ))
     ∙ ap (λ r. reset_to e V x r (connected (info e.signals x) (last_connect e V x) old)) (reset_is e f x l)

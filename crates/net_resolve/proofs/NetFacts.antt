@@ -1,11 +1,9 @@
 -- What the code builds is the net.
-use Rattle.std.proofs.Common.{◌≡◌, ◌∙◌, sym, ap, subst, ℕ, zero, suc, ◌+◌, ◌-◌, ◌<◌, ◌≤◌, ◌^◌, ◌++◌, List, [], ◌∷◌, Option, Some, None, is_some, Bool, true, false, cond, length, map, arith, refl, nat_eq, ⊎_elim, Result, Ok, Err}
-use Rattle.std.specs.Prelude.{unwrap_or, IfOk, OnOk}
+use Rattle.std.proofs.Common.{◌≡◌, ◌∙◌, sym, ap, subst, ℕ, ◌+◌, ◌-◌, ◌<◌, ◌≤◌, ◌^◌, ◌++◌, List, [], ◌∷◌, Option, Some, None, is_some, Bool, true, false, cond, length, map, arith, refl, ⊎_elim, Result, Ok, Err}
+use Rattle.std.specs.Prelude.{IfOk, OnOk}
 use Rattle.std.specs.List.{All}
 use Rattle.std.proofs.lemmas.Bool.{cases_order}
 use Rattle.std.proofs.lemmas.List.Elements.{All-head, All-tail, All-nil, All-cons}
-use Rattle.tb_base.specs.Word.{Word, value_of}
-use Rattle.tb_base.specs.Row.{no_word}
 use Rattle.tb_base.proofs.Words.{low_bits-lt}
 use Rattle.net_core.specs.declared.tree.SignalInfo.{SignalInfo}
 use Rattle.net_core.specs.declared.tree.GroundExpr.{GroundExpr}
@@ -15,31 +13,28 @@ use Rattle.net_core.specs.declared.tree.Elab.{Elab}
 use Rattle.net_core.specs.declared.tree.Net.{Net}
 use Rattle.net_core.specs.declared.tree.Role.{Role}
 use Rattle.net_core.specs.declared.tree.Role.TheVariants.{Input, Output, Inner, Node, Reg}
-use Rattle.net_core.specs.declared.tree.Equation.{Equation}
 use Rattle.net_core.specs.Signals.{info, given_width, is_input, is_register, is_kept}
-use Rattle.net_core.specs.Values.{value, mentions}
-use Rattle.net_core.specs.Body.{Body, body_of, conditions}
+use Rattle.net_core.specs.Values.{value}
+use Rattle.net_core.specs.Body.{body_of, conditions}
 use Rattle.net_core.specs.Last.{own, reset_of}
-use Rattle.net_core.specs.Settled.{Settled, rule, by_role, fitted, last_connect}
-use Rattle.net_core.specs.Depends.{uninitialised, reads_of}
+use Rattle.net_core.specs.Settled.{Settled, by_role}
+use Rattle.net_core.specs.Depends.{uninitialised}
 use Rattle.net_core.specs.Nets.{MeetsNet, by_equation, chosen, choices_of, choices_read, equation_reads, net_reads}
 use Rattle.net_core.specs.Nets as nets
-use Rattle.net_core.specs.WidthRules.{uses}
 use Rattle.net_core.specs.Formed.{Formed, Sized}
 use Rattle.net_core.proofs.FormedFacts.{own_uses}
 use Rattle.net_resolve.specs.declared.join.Found.{Found}
 use Rattle.net_resolve.specs.Joint.{or_none}
 use Rattle.net_resolve.specs.Walk.{found, leaving, inner}
 use Rattle.net_resolve.specs.Resets.{resets}
-use Rattle.net_resolve.specs.Resolved.{Each, asked, condition_signal, reset_signal, resets_from, Conditions, InWidth, HasKind, NetOf, ReadsOver}
+use Rattle.net_resolve.specs.Resolved.{asked, condition_signal, reset_signal, resets_from, InWidth, HasKind, NetOf}
 use Rattle.net_resolve.specs.Pass.{equation_of, equations_from, is_open, first_open, condition_equation}
-use Rattle.net_resolve.proofs.Numbering.{Numbered}
 use Rattle.net_resolve.proofs.Homes.{place}
 use Rattle.net_resolve.proofs.Bounds.{Over}
 use Rattle.net_resolve.proofs.Tops.{Topped, seen_topped, read_under}
 use Rattle.net_resolve.proofs.Sound.{OneBits, is_one_bit, uses_fit}
 use Rattle.net_resolve.proofs.AskedFacts.{asked_each}
-use Rattle.net_resolve.proofs.Resolving.{table_of, reset_at, reset_is, seen_of, table_fits, open_first, number_at, resets_alike}
+use Rattle.net_resolve.proofs.Resolving.{table_of, reset_at, reset_is, seen_of, open_first, number_at, resets_alike}
 use Rattle.net_resolve.proofs.Built.{Built, Cond, conds_of, first_reset, info_own, equation_own, length-net, length-made, each_to, each_get}
 use Rattle.net_resolve.proofs.Meaning.{behind_own, met, meets, next}
 use Rattle.net_resolve.proofs.ReadsFacts.{own_reads, cond_reads, reads_no_more, reads_no_less}
@@ -108,12 +103,12 @@ assembled e f net first signals T R conds ef es eT eR ec en el em =
     let a : conds ++ resets_from R 0 signals ≡ asked e = ap (λ c. c ++ resets_from R 0 signals) ec ∙ ap (λ s. conditions b ++ s) r in
     let o : equations_from T R 0 (first + length conds) signals ≡ equations_from (table_of (length e.signals) b) (reset_at b) 0 (first_reset e) e.signals
     = ap (λ s. equations_from T R 0 (first + length conds) s) es ∙ ap (λ n. equations_from T R 0 n e.signals) sums
-      ∙ equations_alike T (table_of (length e.signals) b) R (reset_at b) 0 (first_reset e) e.signals eT eR in
+    ∙ equations_alike T (table_of (length e.signals) b) R (reset_at b) 0 (first_reset e) e.signals eT eR in
     record {
       own = en ∙ ef;
       signals = el ∙ ap (λ s. s ++ map (λ c. condition_signal) (conds ++ resets_from R 0 signals)) es ∙ ap (λ c. e.signals ++ map (λ c. condition_signal) c) a;
       equations = em ∙ ap (λ q. q ++ map condition_equation (conds ++ resets_from R 0 signals)) o
-        ∙ ap (λ c. equations_from (table_of (length e.signals) b) (reset_at b) 0 (first_reset e) e.signals ++ map condition_equation c) a;
+          ∙ ap (λ c. equations_from (table_of (length e.signals) b) (reset_at b) 0 (first_reset e) e.signals ++ map condition_equation c) a;
     }
   where
     plain : (i : ℕ) → i ≡ 0 + i

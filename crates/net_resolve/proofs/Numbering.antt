@@ -1,5 +1,5 @@
 -- Numbers of conditions.
-use Rattle.std.proofs.Common.{◌≡◌, ℕ, suc, ◌+◌, ◌++◌, Bool, List, [], ◌∷◌, length, arith, subst, ap, sym, length-append, ◌∙◌}
+use Rattle.std.proofs.Common.{◌≡◌, ℕ, suc, ◌+◌, ◌++◌, Bool, List, [], ◌∷◌, length, arith, subst}
 use Rattle.net_core.specs.declared.tree.SignalInfo.{SignalInfo}
 use Rattle.net_core.specs.declared.tree.GroundExpr.{GroundExpr}
 use Rattle.net_core.specs.Values.{value, mentions}
@@ -54,7 +54,9 @@ numbered P n (set line y e rest) h = numbered P n rest h
 numbered P n (when line c t o rest) h =
     let a = each-right P (n + 1) (conditions t) (conditions o ++ conditions rest) h.1 in
     let u = subst (λ k. Each P (n + 1 + k) (conditions o ++ conditions rest)) (length-conditions t) a in
-    let v = subst (λ k. Each P (n + 1 + whens t + k) (conditions rest)) (length-conditions o) (each-right P (n + 1 + whens t) (conditions o) (conditions rest) u) in
-    (h.0, numbered P (n + 1) t (each-left P (n + 1) (conditions t) (conditions o ++ conditions rest) h.1),
-    numbered P (n + 1 + whens t) o (each-left P (n + 1 + whens t) (conditions o) (conditions rest) u),
-    numbered P (n + 1 + whens t + whens o) rest v)
+    let v = subst (λ k. Each P (n + 1 + whens t + k) (conditions rest)) (length-conditions o) (each-right P (n + 1 + whens t) (conditions o) (conditions rest) u) in (
+      h.0,
+      numbered P (n + 1) t (each-left P (n + 1) (conditions t) (conditions o ++ conditions rest) h.1),
+      numbered P (n + 1 + whens t) o (each-left P (n + 1 + whens t) (conditions o) (conditions rest) u),
+      numbered P (n + 1 + whens t + whens o) rest v,
+    )

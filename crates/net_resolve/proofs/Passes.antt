@@ -1,5 +1,5 @@
 -- The pass over the signals: what is left gives what the whole gives.
-use Rattle.std.proofs.Common.{◌≡◌, ◌∙◌, sym, ap, subst, ℕ, ◌+◌, ◌<◌, ◌≤◌, ◌++◌, List, [], ◌∷◌, Option, Some, None, Bool, true, false, cond, length, drop, get_or, drop-cons, add-one, arith, length-append, append_assoc, refl}
+use Rattle.std.proofs.Common.{◌≡◌, ◌∙◌, sym, ap, subst, ℕ, ◌+◌, ◌<◌, ◌≤◌, ◌++◌, List, [], ◌∷◌, Option, Some, true, false, cond, length, drop, get_or, drop-cons, add-one, arith, length-append, append_assoc, refl}
 use Rattle.net_core.specs.declared.tree.SignalInfo.{SignalInfo}
 use Rattle.net_core.specs.declared.tree.GroundExpr.{GroundExpr}
 use Rattle.net_core.specs.declared.tree.GroundReset.{GroundReset}

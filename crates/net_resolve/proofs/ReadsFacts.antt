@@ -1,5 +1,5 @@
 -- The net reads what the elaboration reads.
-use Rattle.std.proofs.Common.{◌≡◌, ◌∙◌, sym, ap, subst, ℕ, ◌+◌, ◌<◌, ◌≤◌, ◌||◌, Bool, true, false, cond, length, refl, Option, Some}
+use Rattle.std.proofs.Common.{◌≡◌, ◌∙◌, sym, ap, subst, ℕ, ◌<◌, ◌≤◌, ◌||◌, Bool, true, false, cond, length, refl, Option, Some}
 use Rattle.net_core.specs.declared.tree.GroundExpr.{GroundExpr}
 use Rattle.net_core.specs.declared.tree.GroundReset.{GroundReset}
 use Rattle.net_core.specs.declared.tree.Elab.{Elab}
@@ -15,7 +15,7 @@ use Rattle.net_core.specs.Nets.{choices_of, choices_read, equation_reads, net_re
 use Rattle.net_core.specs.Formed.{Formed}
 use Rattle.net_resolve.specs.declared.join.Found.{Found}
 use Rattle.net_resolve.specs.Joint.{or_none}
-use Rattle.net_resolve.specs.Resolved.{Each, asked, ReadsOver, directly, over}
+use Rattle.net_resolve.specs.Resolved.{asked, ReadsOver, directly, over}
 use Rattle.net_resolve.specs.Pass.{equation_of}
 use Rattle.net_resolve.proofs.Numbering.{Mentions}
 use Rattle.net_resolve.proofs.Homes.{place}
@@ -48,7 +48,7 @@ pub own_reads : (e : Elab) (net : Net) → Built e net → Formed e → (x : ℕ
 own_reads e net b f x l y =
     ap (λ q. equation_reads q y) (equation_own e net b x l)
     ∙ kept_reads (info e.signals x).role (or_none (table_of (length e.signals) (body_of e.body) x)) (reset_at (body_of e.body) x)
-      (number_at (reset_at (body_of e.body)) 0 (first_reset e) e.signals x) y
+    (number_at (reset_at (body_of e.body)) 0 (first_reset e) e.signals x) y
     ∙ ap (λ c. cond (is_kept (info e.signals x).role) false (choices_read c y)) (table_fits e f x l).list
 
 -- the choices and their conditions read what the body reads

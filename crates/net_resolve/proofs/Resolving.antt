@@ -1,30 +1,24 @@
 -- What the pass over the signals leaves for one of them.
-use Rattle.std.proofs.Common.{◌≡◌, ◌∙◌, sym, ap, subst, ℕ, zero, suc, ◌+◌, ◌<◌, ◌≤◌, ◌++◌, List, [], ◌∷◌, Option, Some, None, Bool, true, false, not, ◌&&◌, cond, length, get_or, map, arith, refl}
-use Rattle.std.specs.List.{All, find, range_with_len}
-use Rattle.std.proofs.lemmas.List.Elements.{All-head, All-tail}
+use Rattle.std.proofs.Common.{◌≡◌, ◌∙◌, sym, ap, subst, ℕ, zero, suc, ◌+◌, ◌<◌, ◌++◌, List, [], ◌∷◌, Option, Some, None, Bool, cond, length, get_or, arith, refl}
+use Rattle.std.specs.List.{find, range_with_len}
 use Rattle.net_core.specs.declared.tree.SignalInfo.{SignalInfo}
 use Rattle.net_core.specs.declared.tree.GroundExpr.{GroundExpr}
 use Rattle.net_core.specs.declared.tree.GroundReset.{GroundReset}
-use Rattle.net_core.specs.declared.tree.Equation.{Equation}
 use Rattle.net_core.specs.declared.tree.Elab.{Elab}
-use Rattle.net_core.specs.declared.tree.Role.{Role}
-use Rattle.net_core.specs.declared.tree.Role.TheVariants.{Input, Output, Inner, Node, Reg}
-use Rattle.net_core.specs.Signals.{info, no_info}
-use Rattle.net_core.specs.Body.{Body, done, declare, set, when, whens, body_of, conditions}
-use Rattle.net_core.specs.Last.{or_else, home, own, reset_of, initialised}
+use Rattle.net_core.specs.declared.tree.Role.TheVariants.{Reg}
+use Rattle.net_core.specs.Signals.{info}
+use Rattle.net_core.specs.Body.{Body, done, body_of}
+use Rattle.net_core.specs.Last.{or_else, home, own, reset_of}
 use Rattle.net_core.specs.Depends.{is_left_open, uninitialised}
-use Rattle.net_core.specs.Nets.{Choices, nothing, choices_of, full, no_equation}
-use Rattle.net_core.specs.Formed.{Formed, lines_of}
-use Rattle.net_core.specs.Formed as formed
-use Rattle.net_core.specs.WidthRules.{Use, uses, reset_uses, value_uses}
-use Rattle.net_core.proofs.FormedFacts.{All-left, All-right}
+use Rattle.net_core.specs.Nets.{Choices, nothing, no_equation}
+use Rattle.net_core.specs.Formed.{Formed}
 use Rattle.net_resolve.specs.declared.join.Found.{Found}
 use Rattle.net_resolve.specs.Joint.{or_none}
 use Rattle.net_resolve.specs.Walk.{found, leaving, inner, or_old}
 use Rattle.net_resolve.specs.Resets.{resets}
-use Rattle.net_resolve.specs.Resolved.{Each, reset_signal, resets_from, asked}
+use Rattle.net_resolve.specs.Resolved.{Each, reset_signal, resets_from}
 use Rattle.net_resolve.specs.Pass.{equation_of, equations_from, is_open, first_open}
-use Rattle.net_resolve.proofs.Numbering.{Numbered, each-left, each-right, each-append}
+use Rattle.net_resolve.proofs.Numbering.{Numbered, each-left, each-right}
 use Rattle.net_resolve.proofs.Homes.{At, times, times_lines, place, entered, numbered_home, resets_once}
 use Rattle.net_resolve.proofs.Fits.{Fits, found_seen}
 use Rattle.net_resolve.proofs.Seen.{seen, seen_full}

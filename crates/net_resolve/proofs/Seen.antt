@@ -3,7 +3,7 @@ use Rattle.std.proofs.Common.{List, ◌≡◌, ◌∙◌, sym, ap, ℕ, ◌+◌,
 use Rattle.std.proofs.lemmas.Bool.{or_parts}
 use Rattle.tb_base.specs.Word.{Word}
 use Rattle.net_core.specs.declared.tree.SignalInfo.{SignalInfo}
-use Rattle.net_core.specs.Values.{value, mentions}
+use Rattle.net_core.specs.Values.{mentions}
 use Rattle.net_core.specs.Body.{Body, done, declare, set, when, whens}
 use Rattle.net_core.specs.Last.{source, source_mentions, holds, last, sinks, reads, initialised}
 use Rattle.net_core.specs.Nets.{Choices, nothing, take, branch, chosen, full}

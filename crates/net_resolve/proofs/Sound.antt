@@ -1,11 +1,11 @@
 -- In a sized circuit a condition's value fits one bit.
-use Rattle.std.proofs.Common.{◌≡◌, ◌≢◌, ◌∙◌, sym, ap, subst, ℕ, zero, suc, ◌+◌, ◌<◌, ◌≤◌, ◌^◌, ◌++◌, List, [], ◌∷◌, Option, Some, None, Bool, true, false, not, ◌&&◌, ◌||◌, ◌==◌, cond, length, map, min, arith, refl, nat_eq, get_or}
-use Rattle.std.specs.Prelude.{slice_index, unwrap_or, nat_lt, nat_le, filter}
+use Rattle.std.proofs.Common.{◌≡◌, ◌≢◌, ◌∙◌, sym, ap, subst, ℕ, zero, suc, ◌<◌, ◌≤◌, ◌^◌, ◌++◌, List, [], ◌∷◌, Option, Some, None, Bool, true, false, ◌&&◌, ◌||◌, ◌==◌, cond, length, map, min, arith, refl, get_or}
+use Rattle.std.specs.Prelude.{slice_index, nat_lt, nat_le, filter}
 use Rattle.std.specs.List.{All}
-use Rattle.std.proofs.lemmas.List.Elements.{All-head, All-tail, All-nil, All-cons}
+use Rattle.std.proofs.lemmas.List.Elements.{All-nil, All-cons}
 use Rattle.std.proofs.lemmas.Bool.{or_parts, eq-eqb, ltb-false}
-use Rattle.tb_base.specs.Word.{Word, low_bits, value_of, cut}
-use Rattle.tb_base.specs.Row.{flag, no_word, row_width, row_signed, leading}
+use Rattle.tb_base.specs.Word.{Word, low_bits, value_of}
+use Rattle.tb_base.specs.Row.{flag}
 use Rattle.tb_base.proofs.Words.{low_bits-lt}
 use Rattle.net_core.specs.declared.tree.SignalInfo.{SignalInfo}
 use Rattle.net_core.specs.declared.tree.GroundExpr.{GroundExpr}
@@ -13,10 +13,10 @@ use Rattle.net_core.specs.declared.tree.GroundExpr.TheFolds.{ind-GroundExpr, map
 use Rattle.net_core.specs.declared.tree.GroundExpr.TheOpen.{GroundExpr-F}
 use Rattle.net_core.specs.declared.tree.GroundExpr.TheViews.{roll-GroundExpr}
 use Rattle.net_core.specs.declared.tree.Elab.{Elab}
-use Rattle.net_core.specs.Signals.{info, no_info, given_width}
-use Rattle.net_core.specs.Shapes.{Shape, no_shape, shape_at, level_shape, greatest, widths}
+use Rattle.net_core.specs.Signals.{info, given_width}
+use Rattle.net_core.specs.Shapes.{Shape, shape_at, level_shape, widths}
 use Rattle.net_core.specs.Values.{any, value, level_value, level_mentions, mentions, word_at}
-use Rattle.net_core.specs.WidthRules.{Judged, parts, judged, level_judged, Use, uses, use_lines, is_wide, is_bad, wide_signals, too_wide_lines, bad_range_lines, least_line, lesser, first_rule, width_rule}
+use Rattle.net_core.specs.WidthRules.{Judged, parts, judged, level_judged, Use, uses, use_lines, is_wide, is_bad, wide_signals, too_wide_lines, bad_range_lines, least_line, lesser, first_rule}
 use Rattle.net_core.specs.Body.{body_of}
 use Rattle.net_core.specs.Formed.{Sized, given_widths}
 use Rattle.net_core.proofs.ExprFacts.{value_roll, mentions_roll}

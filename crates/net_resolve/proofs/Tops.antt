@@ -1,14 +1,13 @@
 -- The numbers in choices are below a bound.
-use Rattle.std.proofs.Common.{◌≡◌, ◌∙◌, sym, ap, subst, ℕ, ◌+◌, ◌<◌, ◌≤◌, ◌++◌, [], Bool, true, false, ◌||◌, ◌&&◌, nat_eq, Option, Some, None, cond, ⊎_elim}
+use Rattle.std.proofs.Common.{◌≡◌, sym, subst, ℕ, ◌+◌, ◌<◌, ◌++◌, [], Bool, true, false, ◌||◌, ◌&&◌, nat_eq, Option, Some, None, cond, ⊎_elim}
 use Rattle.std.specs.List.{All}
 use Rattle.std.proofs.lemmas.List.Elements.{All-head, All-tail}
 use Rattle.std.proofs.lemmas.Bool.{or_cases, eqb-true}
 use Rattle.net_core.specs.declared.tree.GroundExpr.{GroundExpr}
-use Rattle.net_core.specs.Values.{mentions}
 use Rattle.net_core.specs.Body.{Body, done, declare, set, when, whens}
 use Rattle.net_core.specs.Last.{source_mentions, sinks}
 use Rattle.net_core.specs.Nets.{Choices, nothing, take, branch, full, choices_read}
-use Rattle.net_core.specs.WidthRules.{Use, uses, reset_uses, value_uses}
+use Rattle.net_core.specs.WidthRules.{uses, reset_uses, value_uses}
 use Rattle.net_core.proofs.FormedFacts.{All-left, All-right}
 use Rattle.net_resolve.proofs.Numbering.{Numbered}
 use Rattle.net_resolve.proofs.Seen.{seen, joined, append}

@@ -1,10 +1,8 @@
 -- Worked examples: what conditions have signals, and which choices and reads there are.
-use Rattle.std.specs.Prelude.{ℕ, ◌≡◌, Bool, false, true, Some, None, List, [], ◌∷◌, ◌++◌, map}
+use Rattle.std.specs.Prelude.{◌≡◌, false, true, Some, None, [], ◌∷◌, ◌++◌}
 use Rattle.net_core.specs.declared.tree.Role.TheVariants.{Reg}
-use Rattle.net_core.specs.declared.tree.GroundExpr.{GroundExpr}
 use Rattle.net_core.specs.declared.tree.GroundExpr.TheVariants.{Lit}
 use Rattle.net_core.specs.declared.tree.Choice.TheVariants.{Take, When}
-use Rattle.net_core.specs.declared.tree.Elab.{Elab}
 use Rattle.net_core.specs.declared.tree.Net.{Net}
 use Rattle.net_core.specs.declared.tree.Equation.TheVariants as equation
 use Rattle.net_core.specs.Body.{body_of}

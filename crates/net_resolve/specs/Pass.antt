@@ -1,8 +1,8 @@
 -- The equations of the elaboration's own signals, from what the walk found.
-use Rattle.std.specs.Prelude.{ℕ, ◌+◌, Bool, true, false, not, ◌&&◌, List, [], ◌∷◌, ◌++◌, Option, Some, None, length, if◌then◌else◌}
+use Rattle.std.specs.Prelude.{ℕ, ◌+◌, Bool, not, ◌&&◌, List, [], ◌∷◌, ◌++◌, Option, Some, None, length, if◌then◌else◌}
 use Rattle.net_core.specs.declared.tree.SignalInfo.{SignalInfo}
 use Rattle.net_core.specs.declared.tree.Role.{Role}
-use Rattle.net_core.specs.declared.tree.Role.TheVariants.{Input, Output, Inner, Node, Reg}
+use Rattle.net_core.specs.declared.tree.Role.TheVariants.{Input, Reg}
 use Rattle.net_core.specs.declared.tree.GroundExpr.{GroundExpr}
 use Rattle.net_core.specs.declared.tree.GroundReset.{GroundReset}
 use Rattle.net_core.specs.declared.tree.Choice.{Choice}

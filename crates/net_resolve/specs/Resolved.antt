@@ -1,9 +1,9 @@
 -- The net of an elaborated circuit: its conditions have signals of their own, and it means the same.
-use Rattle.std.specs.Prelude.{◌≡◌, ◌↔◌, ℕ, ◌+◌, ◌<◌, ◌≤◌, ◌^◌, Bool, true, false, List, [], ◌∷◌, ◌++◌, Option, Some, None, is_some, map, length}
+use Rattle.std.specs.Prelude.{◌≡◌, ◌↔◌, ℕ, ◌+◌, ◌<◌, ◌≤◌, ◌^◌, true, false, List, [], ◌∷◌, ◌++◌, Option, Some, is_some, map, length}
 use Rattle.std.specs.List.{All}
 use Rattle.net_core.specs.declared.tree.SignalInfo.{SignalInfo}
 use Rattle.net_core.specs.declared.tree.Role.{Role}
-use Rattle.net_core.specs.declared.tree.Role.TheVariants.{Input, Output, Inner, Node, Reg}
+use Rattle.net_core.specs.declared.tree.Role.TheVariants.{Input, Node, Reg}
 use Rattle.net_core.specs.declared.tree.GroundExpr.{GroundExpr}
 use Rattle.net_core.specs.declared.tree.GroundReset.{GroundReset}
 use Rattle.net_core.specs.declared.tree.Elab.{Elab}

@@ -92,10 +92,7 @@ fn equation(
 }
 
 /// Adds it to the equations.
-fn add_equation(
-    equations: &mut Vec<Equation>,
-    equation: Equation,
-) -> Result<(), Memory>
+fn add_equation(equations: &mut Vec<Equation>, equation: Equation) -> Result<(), Memory>
     ensures { OnOk result (equations.new.items ≡ equations.old.items ++ equation ∷ []) }
 {
     equations.push(equation)?;
@@ -142,7 +139,11 @@ fn own_equations(
 }
 
 /// The circuit's signals, then one for each condition.
-fn net_signals(alloc: Global, signals: &[SignalInfo], conds: &[GroundExpr]) -> Result<Vec<SignalInfo>, Memory>
+fn net_signals(
+    alloc: Global,
+    signals: &[SignalInfo],
+    conds: &[GroundExpr],
+) -> Result<Vec<SignalInfo>, Memory>
     ensures { IfOk result (λ v. v.items ≡ signals.now ++ map (λ c. condition_signal) conds.now) }
 {
     let mut all = Vec::new(alloc);
@@ -172,7 +173,11 @@ fn one_take(alloc: Global, cond: GroundExpr) -> Result<Equation, Memory>
 }
 
 /// Adds the equations of the conditions' signals.
-fn add_conditions(alloc: Global, equations: Vec<Equation>, conds: Vec<GroundExpr>) -> Result<Vec<Equation>, Memory>
+fn add_conditions(
+    alloc: Global,
+    equations: Vec<Equation>,
+    conds: Vec<GroundExpr>,
+) -> Result<Vec<Equation>, Memory>
     ensures { IfOk result (λ v. v.items ≡ equations.items ++ map condition_equation conds.items) }
 {
     let mut equations = equations;

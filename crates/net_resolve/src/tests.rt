@@ -11,16 +11,17 @@ use tb_base::{Memory, Name, Seq, put, put_decimal};
 fn circuit(alloc: Global, roles: &[Role], rest: Vec<Ground>) -> Result<Elab, Memory> {
     let mut signals = Vec::new(alloc);
     let mut body = Vec::new(alloc);
-    for k in 0..roles.len() {
+    let mut line = 0u32;
+    for role in roles {
         signals.push(SignalInfo {
             name: Name::of(Vec::new(alloc)),
-            role: roles[k],
+            role: *role,
             signed: false,
             width: Some(1),
-            line: k as u32,
+            line,
         })?;
-        let is_reset = roles[k] == Role::Reg;
-        let reset = if is_reset {
+        let is_register = *role == Role::Reg;
+        let reset = if is_register {
             Some(GroundReset {
                 signal: GroundExpr::Read(Signal(0)),
                 init: GroundExpr::Read(Signal(1)),
@@ -29,10 +30,11 @@ fn circuit(alloc: Global, roles: &[Role], rest: Vec<Ground>) -> Result<Elab, Mem
             None
         };
         body.push(Ground::Declare {
-            signal: Signal(k as u32),
-            line: k as u32,
+            signal: Signal(line),
+            line,
             reset,
         })?;
+        line = line.wrapping_add(1);
     }
     for ground in rest {
         body.push(ground)?;
@@ -93,10 +95,11 @@ fn show(alloc: Global, out: &mut Vec<u8>, choices: &[Choice]) -> Result<(), Memo
 
 fn shown(alloc: Global, net: &Net, x: usize) -> Result<Vec<u8>, Memory> {
     let mut out = Vec::new(alloc);
-    match &net.equations.items()[x] {
-        Equation::Input => put(&mut out, b"input")?,
-        Equation::Comb(choices) => show(alloc, &mut out, choices.items())?,
-        Equation::Reg { next } => show(alloc, &mut out, next.items())?,
+    match net.equations.items().get(x) {
+        None => {}
+        Some(Equation::Input) => put(&mut out, b"input")?,
+        Some(Equation::Comb(choices)) => show(alloc, &mut out, choices.items())?,
+        Some(Equation::Reg { next }) => show(alloc, &mut out, next.items())?,
     }
     Ok(out)
 }

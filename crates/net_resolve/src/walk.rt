@@ -109,7 +109,10 @@ fn walk_items(
                 put(&mut map, sink.0, found)?;
             }
             Ground::When {
-                cond, taken, other, ..
+                cond,
+                taken,
+                other,
+                ..
             } => {
                 let k = ask(alloc, first, cond, conds)?;
                 let yes = walk_block(alloc, first, taken.as_slice(), conds, table)?;

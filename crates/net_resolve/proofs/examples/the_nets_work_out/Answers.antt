@@ -1,5 +1,5 @@
 use Rattle.std.proofs.Common.{refl}
-use Rattle.net_core.proofs.Trees.{of_declare, of_set, of_when, at_read, at_lit}
+use Rattle.net_core.proofs.Trees.{of_declare, of_set, of_when, at_read}
 use Rattle.net_resolve.proofs.Fits.{first_take, one_when}
 use Rattle.net_resolve.proofs.examples.the_nets_work_out.Goals as goal
 

@@ -1,4 +1,3 @@
-use Rattle.std.proofs.Common.{ℕ, drop}
 use Rattle.std.specs.Ordering.{nat_cmp}
 use Rattle.std.specs.BTreeMap.{get}
 use Rattle.net_resolve.proofs.Passes.{Passes}
