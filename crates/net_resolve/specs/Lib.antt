@@ -1,0 +1,6 @@
+pub mod Examples
+pub mod Joint
+pub mod Pass
+pub mod Resets
+pub mod Resolved
+pub mod Walk
