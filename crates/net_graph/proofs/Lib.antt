@@ -1,0 +1,2 @@
+pub mod HasFacts
+pub mod OrderFacts

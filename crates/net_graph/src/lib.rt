@@ -1,0 +1,4 @@
+//! What a net's signals read, seen as a graph: the order in which they settle, loops, and cones.
+#![tactic(auto)]
+
+mod order;
