@@ -36,3 +36,24 @@ plus_one n = omega arith
 
 pub has_take : (xs : List ℕ) (i d z : ℕ) → i < length xs → has (take (i + 1) xs) z ≡ true → (has (take i xs) z ≡ true) ⊎ (z ≡ get_or xs i d)
 has_take xs i d z h k = take_suc xs i d z h (subst (λ n. has (take n xs) z ≡ true) (sym (plus_one i)) k)
+
+wider_suc : (xs : List ℕ) (i z : ℕ) → has (take i xs) z ≡ true → has (take (suc i) xs) z ≡ true
+wider_suc [] zero z m = absurd cc
+wider_suc [] (suc i) z m = absurd cc
+wider_suc (x ∷ xs) zero z m = absurd cc
+wider_suc (x ∷ xs) (suc i) z m = ⊎_elim
+    (λ p. or_left (nat_eq z x) (has (take (suc i) xs) z) p)
+    (λ p. or_right (nat_eq z x) (has (take (suc i) xs) z) (wider_suc xs i z p))
+    (or_cases (nat_eq z x) (has (take i xs) z) m)
+
+pub has_wider : (xs : List ℕ) (i z : ℕ) → has (take i xs) z ≡ true → has (take (i + 1) xs) z ≡ true
+has_wider xs i z m = subst (λ n. has (take n xs) z ≡ true) (plus_one i) (wider_suc xs i z m)
+
+newest_suc : (xs : List ℕ) (i d : ℕ) → i < length xs → has (take (suc i) xs) (get_or xs i d) ≡ true
+newest_suc [] i d h = absurd (omega arith)
+newest_suc (x ∷ xs) zero d h = or_left (nat_eq x x) false (eq-eqb x x refl)
+newest_suc (x ∷ xs) (suc i) d h =
+    or_right (nat_eq (get_or xs i d) x) (has (take (suc i) xs) (get_or xs i d)) (newest_suc xs i d (omega arith))
+
+pub has_newest : (xs : List ℕ) (i d : ℕ) → i < length xs → has (take (i + 1) xs) (get_or xs i d) ≡ true
+has_newest xs i d h = subst (λ n. has (take n xs) (get_or xs i d) ≡ true) (plus_one i) (newest_suc xs i d h)

@@ -1,2 +1,3 @@
 pub mod HasFacts
 pub mod OrderFacts
+pub mod ReaderFacts

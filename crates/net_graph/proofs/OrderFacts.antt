@@ -1,10 +1,10 @@
 -- Orders grow at their end.
-use Rattle.std.proofs.Common.{◌≡◌, ◌∙◌, sym, ap, subst, ℕ, zero, suc, ◌+◌, ◌<◌, ◌≤◌, Bool, true, false, List, [], ◌∷◌, ◌++◌, ◌||◌, nat_eq, ◌⊎◌, inl, inr, refl, arith, ⊎_elim, length, take, get_or, set}
+use Rattle.std.proofs.Common.{◌≡◌, ◌∙◌, sym, ap, subst, ℕ, zero, suc, ◌+◌, ◌<◌, ◌≤◌, Bool, true, false, List, [], ◌∷◌, ◌++◌, ◌||◌, nat_eq, ◌⊎◌, inl, inr, refl, arith, ⊎_elim, length, take, get_or, set, replicate}
 use Rattle.std.proofs.lemmas.Bool.{or_cases, or_left, or_right, eq-eqb, ne_eqb, cases_eq, both_ways}
 use Rattle.std.proofs.lemmas.List.{length-set}
 use Rattle.net_core.specs.Rules.{has}
 use Rattle.net_graph.specs.Graphs.{reads_in, Follows}
-use Rattle.net_graph.specs.Taking.{left, is_taken, Taken, Waits, StuckBelow}
+use Rattle.net_graph.specs.Taking.{left, is_taken, Taken, Waits, StuckBelow, Furthest}
 use Rattle.net_graph.proofs.HasFacts.{has_append}
 
 follows_more : (reads : ℕ → ℕ → Bool) (seen xs : List ℕ) (x : ℕ) → Follows reads seen xs → (has xs x || has seen x) ≡ false
@@ -72,3 +72,52 @@ taken_one lists order taken x h t fresh below = record {
     marked y (inr n) =
         let q : nat_eq y x ≡ false = ne_eqb y x n in
         taken_other taken x y n ∙ t.marks y ∙ sym (has_append order (x ∷ []) y ∙ right_false (has order y) (nat_eq y x || false) (right_false (nat_eq y x) false refl ∙ q))
+
+-- no mark is set at first
+left_none : (n : ℕ) → left (replicate n false) ≡ n
+left_none zero = refl
+left_none (suc n) = let e : left (replicate n false) ≡ n = left_none n in omega (arith, e)
+
+taken_none : (n x : ℕ) → is_taken (replicate n false) x ≡ false
+taken_none zero x = refl
+taken_none (suc n) zero = refl
+taken_none (suc n) (suc x) = taken_none n x
+
+length_none : (n : ℕ) → length (replicate n false) ≡ n
+length_none zero = refl
+length_none (suc n) = ap suc (length_none n)
+
+pub nothing_taken : (lists : List (List ℕ)) → Taken lists [] (replicate (length lists) false)
+nothing_taken lists = record {
+  follows = tt;
+  marks = λ x. taken_none (length lists) x;
+  places = length_none (length lists);
+  count = let e : left (replicate (length lists) false) ≡ length lists = left_none (length lists) in omega (arith, e);
+}
+
+-- a set mark is one of the marks
+pub taken_below : (taken : List Bool) (x : ℕ) → is_taken taken x ≡ true → x < length taken
+taken_below [] x h = absurd cc
+taken_below (b ∷ bs) zero h = omega arith
+taken_below (b ∷ bs) (suc x) h = let e : x < length bs = taken_below bs x h in omega (arith, e)
+
+all_if_none_left : (taken : List Bool) (x : ℕ) → left taken ≡ 0 → x < length taken → is_taken taken x ≡ true
+all_if_none_left [] x e h = absurd (omega arith)
+all_if_none_left (true ∷ bs) zero e h = refl
+all_if_none_left (true ∷ bs) (suc x) e h = all_if_none_left bs x e (omega arith)
+all_if_none_left (false ∷ bs) x e h = absurd (omega (arith, e))
+
+one_if_left : (taken : List Bool) → (left taken ≡ 0 → ⊥) → (x : ℕ) × (x < length taken) × (is_taken taken x ≡ false)
+one_if_left [] n = absurd (n refl)
+one_if_left (true ∷ bs) n = let o = one_if_left bs n in let h : o.0 < length bs = o.1 in (suc o.0, omega (arith, h), o.2)
+one_if_left (false ∷ bs) n = (0, omega arith, refl)
+
+pub furthest : (lists : List (List ℕ)) (order : List ℕ) (taken : List Bool) → Taken lists order taken → StuckBelow lists taken (length lists) → Furthest lists order
+furthest lists order taken t s = record {
+  follows = t.follows;
+  own = λ x h. subst (λ n. x < n) t.places (taken_below taken x (t.marks x ∙ h));
+  stuck = λ x h f. let w = s x h (t.marks x ∙ f) in (w.0, w.1, sym (t.marks w.0) ∙ w.2);
+  full = λ e x h. sym (t.marks x) ∙ all_if_none_left taken x (let c : left taken + length order ≡ length lists = t.count in omega (arith, c, e)) (subst (λ n. x < n) (sym t.places) h);
+  short = λ n. let o = one_if_left taken (λ z. n (let c : left taken + length order ≡ length lists = t.count in omega (arith, c, z))) in
+      (o.0, subst (λ k. o.0 < k) t.places o.1, sym (t.marks o.0) ∙ o.2);
+}

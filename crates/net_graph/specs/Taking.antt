@@ -27,3 +27,11 @@ Waits lists taken x = (y : ℕ) × (reads_in lists x y ≡ true) × (is_taken ta
 abbrev pub StuckBelow : List (List ℕ) → List Bool → ℕ → Type 0
 StuckBelow lists taken n = (x : ℕ) → x < n → is_taken taken x ≡ false → Waits lists taken x
 
+
+-- an order that goes as far as it can: what isn't in it reads something that isn't
+pub record Furthest (lists : List (List ℕ)) (order : List ℕ) : Type 0 where
+  pub follows : Follows (reads_in lists) [] order
+  pub own : (x : ℕ) → has order x ≡ true → x < length lists
+  pub stuck : (x : ℕ) → x < length lists → has order x ≡ false → (y : ℕ) × (reads_in lists x y ≡ true) × (has order y ≡ false)
+  pub full : length order ≡ length lists → (x : ℕ) → x < length lists → has order x ≡ true
+  pub short : (length order ≡ length lists → ⊥) → (x : ℕ) × (x < length lists) × (has order x ≡ false)

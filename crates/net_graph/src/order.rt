@@ -2,10 +2,10 @@
 //!
 //! A number is taken when all that it reads was taken. What may be taken next is found by counts of what is left to
 //! read; that they are right isn't needed for the result, since each number is looked at again before it is taken.
-ghost use Rattle.std.specs.Prelude.{◌≡◌, ℕ, ◌≤◌, ◌<◌, ◌^◌, length, true, false, IfOk, OnOk};
+ghost use Rattle.std.specs.Prelude.{◌≡◌, ℕ, ◌≤◌, ◌<◌, ◌^◌, [], length, true, false, IfOk, OnOk};
 ghost use Rattle.net_core.specs.Rules.{has};
 ghost use Rattle.net_graph.specs.Graphs.{reads_in, Follows};
-ghost use Rattle.net_graph.specs.Taking.{is_taken, left, Taken, Waits, StuckBelow};
+ghost use Rattle.net_graph.specs.Taking.{is_taken, left, Taken, Waits, StuckBelow, Furthest};
 
 use std::alloc::Global;
 use tb_base::{Memory, Seq};
@@ -105,4 +105,43 @@ fn go_on(
         next += 1;
     }
     Ok(())
+}
+
+/// How many entries each list has.
+fn lengths(alloc: Global, lists: &[Seq<u32>]) -> Result<Vec<u32>, Memory>
+    ensures { IfOk result (λ v. length v.items ≡ length lists.now) }
+{
+    let mut lengths = Vec::new(alloc);
+    for list in lists {
+        lengths.push(list.items().len().min(u32::MAX as usize) as u32)?;
+    }
+    Ok(lengths)
+}
+
+/// As many marks as there are lists, none of them set.
+fn no_marks(alloc: Global, lists: &[Seq<u32>]) -> Result<Vec<bool>, Memory>
+    ensures { IfOk result (λ v. Taken lists.now [] v.items) }
+{
+    let marks = vec![in alloc; false; lists.len()]?;
+    Ok(marks)
+}
+
+/// The numbers below the number of lists in an order in which each comes after all that it reads, as far as there is
+/// one. `readers` says for each number what reads it.
+///
+/// The time is linear in the numbers and their reads.
+pub(crate) fn furthest_order(alloc: Global, lists: &[Seq<u32>], readers: &[Vec<u32>]) -> Result<Vec<u32>, Memory>
+    requires { length lists.now < 2 ^ 32 }
+    ensures { IfOk result (λ order. Furthest lists.now order.items) }
+{
+    let mut unread = lengths(alloc, lists)?;
+    let mut taken = no_marks(alloc, lists)?;
+    let mut order = Vec::new(alloc);
+    loop {
+        let next = order.len();
+        if !sweep(lists, &mut taken, &mut order)? {
+            return Ok(order);
+        }
+        go_on(lists, readers, next, &mut unread, &mut taken, &mut order)?;
+    }
 }
