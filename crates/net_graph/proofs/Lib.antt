@@ -1,3 +1,5 @@
 pub mod HasFacts
 pub mod OrderFacts
 pub mod ReaderFacts
+pub mod MentionFacts
+pub mod LoopFacts

@@ -3,3 +3,4 @@
 
 mod order;
 mod readers;
+mod mention;
