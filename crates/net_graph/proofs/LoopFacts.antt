@@ -8,6 +8,7 @@ use Rattle.std.specs.Cmp.Lexicographic.{slice_cmp}
 use Rattle.net_core.specs.Depends.{NotAfter}
 use Rattle.net_graph.specs.Loops.{Leads, IsLoopFrom, NoLoops, IsNamedLoop, IsChainOf, IsNamedChain}
 use Rattle.net_graph.specs.Distances.{Measures}
+use Rattle.net_graph.specs.Falling.{Falls}
 
 -- order of lists
 pub none_after : NotAfter [] []
@@ -29,11 +30,6 @@ at_least G p far D f m x (y ∷ ys) l =
     let b : D l.1 ≤ length ys = r.1 in
     let c : D x ≤ D l.1 + 1 = n.1 in
     (n.0, omega (arith, b, c))
-
--- from x to p, each step to the least of those that are nearer by one
-abbrev pub Falls : (ℕ → ℕ → Type 0) → (ℕ → ℕ) → ℕ → List ℕ → ℕ → Type 0
-Falls G D x [] p = x ≡ p
-Falls G D x (y ∷ ys) p = (y ≡ x) × (z : ℕ) × G x z × (D x ≡ suc (D z)) × ((w : ℕ) → G x w → D w ≡ D z → z ≤ w) × Falls G D z ys p
 
 pub falls_lead : (G : ℕ → ℕ → Type 0) (D : ℕ → ℕ) (x : ℕ) (xs : List ℕ) (p : ℕ) → Falls G D x xs p → Leads G x xs p
 falls_lead G D x [] p f = f
@@ -60,7 +56,8 @@ falls_least G p far D zs o m n x [] [] b f l e = n
 falls_least G p far D zs o m n x [] (c ∷ cs) b f l e = absurd (omega (arith, e))
 falls_least G p far D zs o m n x (a ∷ rest) [] b f l e = absurd (omega (arith, e))
 falls_least G p far D zs o m n x (a ∷ rest) (c ∷ cs) b f l e =
-    subst (λ t. NotAfter (a ∷ rest ++ zs) (t ∷ cs ++ zs)) (f.0 ∙ sym l.0) (same_first a (rest ++ zs) (cs ++ zs) (behind (cases_eq f.1 l.1)))
+    subst (λ t. NotAfter (a ∷ rest ++ zs) (t ∷ cs ++ zs)) (f.0 ∙ sym l.0) (same_first a (rest ++ zs) (cs ++ zs)
+    (behind (cases_eq f.1 l.1) (λ q k. falls_least G p far D zs o m n f.1 rest cs q f.5 k (suc_same (length cs) (length rest) e))))
   where
     z : ℕ
     z = f.1
@@ -95,9 +92,9 @@ falls_least G p far D zs o m n x (a ∷ rest) (c ∷ cs) b f l e =
     lower : (z ≡ w → ⊥) → z < w
     lower d = let q : z ≤ w = least in omega (arith, q, d)
 
-    behind : (z ≡ w) ⊎ (z ≡ w → ⊥) → NotAfter (rest ++ zs) (cs ++ zs)
-    behind (inl q) = falls_least G p far D zs o m n z rest cs nearer f.5 (subst (λ t. Leads G t cs p) (sym q) l.3) same_length
-    behind (inr d) = apart G D p zs n z w rest cs f.5 l.3 same_length (lower d)
+    behind : (z ≡ w) ⊎ (z ≡ w → ⊥) → (D z < far → Leads G z cs p → NotAfter (rest ++ zs) (cs ++ zs)) → NotAfter (rest ++ zs) (cs ++ zs)
+    behind (inl q) go = go nearer (subst (λ t. Leads G t cs p) (sym q) l.3)
+    behind (inr d) go = apart G D p zs n z w rest cs f.5 l.3 same_length (lower d)
 
 -- the least of the nearest that x reads
 pub record Nearest (G : ℕ → ℕ → Type 0) (D : ℕ → ℕ) (x z : ℕ) : Type 0 where

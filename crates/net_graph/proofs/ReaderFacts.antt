@@ -120,3 +120,8 @@ one_more_empty [] v e h zero k = ap (λ (o : List ℕ). has o k) e
 one_more_empty [] v e h (suc z) k = refl
 one_more_empty (r ∷ rs) v e h zero k = h 0 k
 one_more_empty (r ∷ rs) v e h (suc z) k = one_more_empty rs v e (λ y i. h (suc y) i) z k
+
+pub row_past : (rows : List Row) (z k : ℕ) → length rows ≤ z → in_row rows z k ≡ false
+row_past [] z k h = refl
+row_past (r ∷ rs) zero k h = absurd (omega arith)
+row_past (r ∷ rs) (suc z) k h = row_past rs z k (omega arith)

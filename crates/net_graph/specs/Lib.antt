@@ -4,3 +4,4 @@ pub mod Readers
 pub mod Mentions
 pub mod Loops
 pub mod Distances
+pub mod Falling

@@ -4,3 +4,5 @@
 mod order;
 mod readers;
 mod mention;
+mod distance;
+mod search;
