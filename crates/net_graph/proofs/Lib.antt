@@ -5,3 +5,5 @@ pub mod MentionFacts
 pub mod LoopFacts
 pub mod DistanceFacts
 pub mod SearchFacts
+pub mod OwnFacts
+pub mod ConeFacts

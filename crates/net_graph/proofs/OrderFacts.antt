@@ -118,6 +118,6 @@ furthest lists order taken t s = record {
   own = λ x h. subst (λ n. x < n) t.places (taken_below taken x (t.marks x ∙ h));
   stuck = λ x h f. let w = s x h (t.marks x ∙ f) in (w.0, w.1, sym (t.marks w.0) ∙ w.2);
   full = λ e x h. sym (t.marks x) ∙ all_if_none_left taken x (let c : left taken + length order ≡ length lists = t.count in omega (arith, c, e)) (subst (λ n. x < n) (sym t.places) h);
-  short = λ n. let o = one_if_left taken (λ z. n (let c : left taken + length order ≡ length lists = t.count in omega (arith, c, z))) in
+  short = λ n. let o = one_if_left taken (λ z. let c : left taken + length order ≡ length lists = t.count in absurd (omega (arith, c, z, n))) in
       (o.0, subst (λ k. o.0 < k) t.places o.1, sym (t.marks o.0) ∙ o.2);
 }

@@ -5,3 +5,6 @@ pub mod Mentions
 pub mod Loops
 pub mod Distances
 pub mod Falling
+pub mod NetGraphs
+pub mod Reaching
+pub mod Uniting

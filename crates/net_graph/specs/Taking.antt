@@ -1,5 +1,5 @@
 -- An order as it grows.
-use Rattle.std.specs.Prelude.{◌≡◌, ℕ, ◌+◌, ◌<◌, Bool, true, false, List, [], ◌∷◌, slice_index_or, length}
+use Rattle.std.specs.Prelude.{◌≡◌, ℕ, ◌+◌, ◌<◌, ◌≤◌, Bool, true, false, List, [], ◌∷◌, slice_index_or, length}
 use Rattle.net_core.specs.Rules.{has}
 use Rattle.net_graph.specs.Graphs.{reads_in, Follows}
 
@@ -33,5 +33,5 @@ pub record Furthest (lists : List (List ℕ)) (order : List ℕ) : Type 0 where
   pub follows : Follows (reads_in lists) [] order
   pub own : (x : ℕ) → has order x ≡ true → x < length lists
   pub stuck : (x : ℕ) → x < length lists → has order x ≡ false → (y : ℕ) × (reads_in lists x y ≡ true) × (has order y ≡ false)
-  pub full : length order ≡ length lists → (x : ℕ) → x < length lists → has order x ≡ true
-  pub short : (length order ≡ length lists → ⊥) → (x : ℕ) × (x < length lists) × (has order x ≡ false)
+  pub full : length lists ≤ length order → (x : ℕ) → x < length lists → has order x ≡ true
+  pub short : length order < length lists → (x : ℕ) × (x < length lists) × (has order x ≡ false)

@@ -6,3 +6,10 @@ mod readers;
 mod mention;
 mod distance;
 mod search;
+mod contract;
+mod level;
+
+pub use cones::{Cones, cone_table};
+pub use level::{GraphFault, LevelOrder, levels};
+mod cones;
+mod inputs;

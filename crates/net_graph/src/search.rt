@@ -4,7 +4,7 @@ ghost use Rattle.net_core.specs.Rules.{has};
 ghost use Rattle.net_graph.specs.Graphs.{reads_in, Within};
 ghost use Rattle.net_graph.specs.Readers.{in_row, Turned};
 ghost use Rattle.net_graph.specs.Distances.{distance_of, Measures};
-ghost use Rattle.net_graph.specs.Loops.{IsLoopFrom, IsNamedLoop, NoLoops};
+ghost use Rattle.net_graph.specs.Loops.{Leads, IsLoopFrom, IsNamedLoop, IsNamedChain, NoLoops};
 ghost use Rattle.net_graph.specs.Falling.{Falls, NearerOf, NearestIn, Reads};
 
 use crate::distance::distances;
@@ -115,4 +115,21 @@ pub(crate) fn least_loop(alloc: Global, lists: &[Seq<u32>]) -> Result<Option<Vec
         }
     }
     Ok(None)
+}
+
+/// The named chain from a number to another. The time is linear in the numbers and their reads.
+pub(crate) fn least_chain(alloc: Global, lists: &[Seq<u32>], from: u32, to: u32) -> Result<Vec<u32>, Memory>
+    requires few { length lists.now < 2 ^ 32 }
+    requires within { Within lists.now }
+    requires to { to < length lists.now }
+    requires leads { (way : List ℕ) × Leads (Reads lists.now) from way to }
+    ensures { IfOk result (λ v. IsNamedChain (Reads lists.now) from to v.items) }
+{
+    let readers = readers_of(alloc, lists)?;
+    let far = lists.len() as u32;
+    let distances = distances(alloc, &readers, to, far)?;
+    let mut path = Vec::new(alloc);
+    descend(lists, &distances, far, from, to, &mut path)?;
+    path.push(to)?;
+    Ok(path)
 }
