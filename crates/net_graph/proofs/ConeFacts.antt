@@ -1,5 +1,5 @@
 -- Sets of inputs.
-use Rattle.std.proofs.Common.{◌≡◌, ◌≢◌, ◌∙◌, sym, ap, subst, ℕ, zero, suc, ◌+◌, ◌-◌, ◌^◌, ◌<◌, ◌≤◌, Bool, true, false, List, [], ◌∷◌, ◌||◌, ◌&&◌, nat_eq, nat_lt, ◌⊎◌, inl, inr, refl, arith, ⊎_elim, length, take, drop, drop-cons, add-one, get_or, set, max, if◌then◌else◌}
+use Rattle.std.proofs.Common.{◌≡◌, ◌∙◌, sym, ap, subst, ℕ, zero, suc, ◌+◌, ◌-◌, ◌^◌, ◌<◌, ◌≤◌, Bool, true, false, List, [], ◌∷◌, ◌||◌, ◌&&◌, nat_eq, nat_lt, ◌⊎◌, inl, inr, refl, arith, ⊎_elim, length, take, drop, drop-cons, add-one, get_or, set, max, if◌then◌else◌}
 use Rattle.std.proofs.lemmas.Bool.{eq-eqb, eqb-true, cases_eq, ne_eqb, or_cases, or_left, or_right}
 use Rattle.std.proofs.lemmas.Nat.Bits.{bit_at_or, bit_at-zero, bit_at-pow_same, bit_at-pow_other, bit_at-lt}
 use Rattle.std.specs.Int.{bit_at}
@@ -188,9 +188,10 @@ set_right lists inputs order i sets s f h b e done x m = at (cases_eq x (get_or 
         or_right (inputs z && nat_eq p z) (in_one_of (get_or lists z []) sets p) (some_one_of (get_or lists z []) sets p y r ((done y (before y r) p ip).1 t))
 
     at : (x ≡ get_or order i 0) ⊎ (x ≡ get_or order i 0 → ⊥) → RightAt (reads_in lists) inputs (set sets (get_or order i 0) s) x
-    at (inl q) = subst (λ z. RightAt (reads_in lists) inputs (set sets (get_or order i 0) s) z) (sym q) (λ p ip.
-        ((λ k. sound_at (get_or order i 0) p ip (sym (e p) ∙ sym (set_same sets (get_or order i 0) p s b) ∙ k) (λ y r. reads_earlier (reads_in lists) order i y f h r)),
-        (λ k. set_same sets (get_or order i 0) p s b ∙ e p ∙ whole_at (get_or order i 0) p ip k (λ y r. reads_earlier (reads_in lists) order i y f h r))))
+    at (inl q) = subst (λ z. RightAt (reads_in lists) inputs (set sets (get_or order i 0) s) z) (sym q) (λ p ip. (
+      (λ k. sound_at (get_or order i 0) p ip (sym (e p) ∙ sym (set_same sets (get_or order i 0) p s b) ∙ k) (λ y r. reads_earlier (reads_in lists) order i y f h r)),
+      (λ k. set_same sets (get_or order i 0) p s b ∙ e p ∙ whole_at (get_or order i 0) p ip k (λ y r. reads_earlier (reads_in lists) order i y f h r)),
+    ))
     at (inr n) = λ p ip.
         let d = done x (⊎_elim (λ k. k) (λ q. absurd (n q)) (has_take order i 0 x h m)) p ip in
         ((λ k. d.0 (sym (set_other sets (get_or order i 0) x p s n) ∙ k)), (λ k. set_other sets (get_or order i 0) x p s n ∙ d.1 k))
@@ -221,9 +222,10 @@ reached_way reads own cond p hp x (by _ y r t) = go (reached_way reads own cond 
   where
     go : (y < own → (xs : List ℕ) × Leads (ReadsOver reads own) y xs p) × (own ≤ y → (z : ℕ) → z < own → reads z y ≡ true → (xs : List ℕ) × Leads (ReadsOver reads own) z xs p) → (y < own) ⊎ (own ≤ y)
         → (x < own → (xs : List ℕ) × Leads (ReadsOver reads own) x xs p) × (own ≤ x → (z : ℕ) → z < own → reads z x ≡ true → (xs : List ℕ) × Leads (ReadsOver reads own) z xs p)
-    go w (inl b) =
-        ((λ h. let v = w.0 b in (x ∷ v.0, (refl, y, record { reader = h; read = b; way = inl r }, v.1))),
-        (λ o z h q. let v = w.0 b in (z ∷ v.0, (refl, y, record { reader = h; read = b; way = inr (x, o, q, r) }, v.1))))
+    go w (inl b) = (
+      (λ h. let v = w.0 b in (x ∷ v.0, (refl, y, record { reader = h; read = b; way = inl r }, v.1))),
+      (λ o z h q. let v = w.0 b in (z ∷ v.0, (refl, y, record { reader = h; read = b; way = inr (x, o, q, r) }, v.1))),
+    )
     go w (inr b) = ((λ h. w.1 b x h r), (λ o z h q. absurd (let k : y < own = cond x y o r in omega (arith, b, k))))
 
 pub reached_leads : (reads : ℕ → ℕ → Bool) (own : ℕ) → ((c y : ℕ) → own ≤ c → reads c y ≡ true → y < own) → (p x : ℕ) → p < own → x < own → Reached reads p x

@@ -1,13 +1,13 @@
 -- Distances level by level.
-use Rattle.std.proofs.Common.{◌≡◌, ◌≢◌, ◌∙◌, sym, ap, subst, ℕ, zero, suc, ◌+◌, ◌<◌, ◌≤◌, Bool, true, false, List, [], ◌∷◌, ◌++◌, ◌||◌, nat_eq, ◌⊎◌, inl, inr, refl, arith, ⊎_elim, length, take, get_or, set, replicate, if◌then◌else◌}
-use Rattle.std.proofs.lemmas.Bool.{or_cases, or_left, or_right, eq-eqb, eqb-true, cases_eq, ne_eqb, both_ways}
+use Rattle.std.proofs.Common.{◌≡◌, ◌≢◌, ◌∙◌, sym, ap, subst, ℕ, zero, suc, ◌+◌, ◌<◌, ◌≤◌, Bool, true, false, List, [], ◌∷◌, ◌++◌, nat_eq, ◌⊎◌, inl, inr, refl, arith, ⊎_elim, length, set, replicate, if◌then◌else◌}
+use Rattle.std.proofs.lemmas.Bool.{or_cases, or_left, or_right, eq-eqb, eqb-true, cases_eq, ne_eqb}
 use Rattle.std.proofs.lemmas.List.{length-set}
 use Rattle.std.specs.declared.vec.Vec.{Vec}
 use Rattle.std.specs.declared.alloc.Global.{Global}
 use Rattle.net_core.specs.Rules.{has}
 use Rattle.net_graph.specs.Readers.{in_row}
 use Rattle.net_graph.specs.Distances.{distance_of, unreached, Level, Spread, AllReached, Step, Measures}
-use Rattle.net_graph.proofs.HasFacts.{has_append, has_head, has_take}
+use Rattle.net_graph.proofs.HasFacts.{has_append, has_head}
 
 dist_same : (D : List ℕ) (far x v : ℕ) → x < length D → distance_of (set D x v) far x ≡ v
 dist_same [] far x v h = absurd (omega arith)
@@ -109,10 +109,13 @@ spread_step rows far level front first now next now2 next2 x z s (inl t) h f r m
     each_at : (y : ℕ) → (y ≡ x) ⊎ (y ≡ x → ⊥) → (distance_of (set now x level) far y ≡ distance_of first far y)
         ⊎ ((distance_of first far y ≡ far) × (distance_of (set now x level) far y ≡ level) × (has (next ++ x ∷ []) y ≡ true) × (w : ℕ) × (has front w ≡ true) × (in_row rows w y ≡ true))
     each_at y (inl e) = inr (
-        subst (λ q. distance_of first far q ≡ far) (sym e) (was_far (s.each x)),
-        subst (λ q. distance_of (set now x level) far q ≡ level) (sym e) same,
-        subst (λ q. has (next ++ x ∷ []) q ≡ true) (sym e) (last_has next x),
-        z, f, subst (λ q. in_row rows z q ≡ true) (sym e) r)
+      subst (λ q. distance_of first far q ≡ far) (sym e) (was_far (s.each x)),
+      subst (λ q. distance_of (set now x level) far q ≡ level) (sym e) same,
+      subst (λ q. has (next ++ x ∷ []) q ≡ true) (sym e) (last_has next x),
+      z,
+      f,
+      subst (λ q. in_row rows z q ≡ true) (sym e) r,
+    )
     each_at y (inr n) = ⊎_elim
         (λ a. inl (dist_other now far x y level n ∙ a))
         (λ a. inr (a.0, dist_other now far x y level n ∙ a.1, kept_has next x y a.2, a.3, a.4, a.5))

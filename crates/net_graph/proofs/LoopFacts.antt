@@ -1,12 +1,9 @@
 -- Walks that always take the least of the nearest are the shortest, and the least of those.
-use Rattle.std.proofs.Common.{◌≡◌, ◌≢◌, ◌∙◌, sym, ap, subst, ℕ, zero, suc, ◌+◌, ◌<◌, ◌≤◌, Bool, true, false, List, [], ◌∷◌, ◌++◌, nat_eq, ◌⊎◌, inl, inr, refl, arith, ⊎_elim, length}
+use Rattle.std.proofs.Common.{◌≡◌, ◌∙◌, sym, ap, subst, ℕ, suc, ◌+◌, ◌<◌, ◌≤◌, List, [], ◌∷◌, ◌++◌, ◌⊎◌, inl, inr, refl, arith, length}
 use Rattle.std.proofs.lemmas.Bool.{cases_eq}
 use Rattle.std.proofs.lemmas.Grind.{common_steps}
-use Rattle.std.specs.declared.cmp.Ordering.TheVariants.{Less, Equal, Greater}
-use Rattle.std.specs.Ordering.{nat_cmp}
-use Rattle.std.specs.Cmp.Lexicographic.{slice_cmp}
 use Rattle.net_core.specs.Depends.{NotAfter}
-use Rattle.net_graph.specs.Loops.{Leads, IsLoopFrom, NoLoops, IsNamedLoop, IsChainOf, IsNamedChain}
+use Rattle.net_graph.specs.Loops.{Leads, IsLoopFrom, IsNamedLoop, IsNamedChain}
 use Rattle.net_graph.specs.Distances.{Measures}
 use Rattle.net_graph.specs.Falling.{Falls}
 

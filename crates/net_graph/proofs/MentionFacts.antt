@@ -1,5 +1,5 @@
 -- What grows by what is mentioned.
-use Rattle.std.proofs.Common.{◌≡◌, ◌∙◌, sym, ap, subst, ℕ, zero, suc, ◌+◌, ◌<◌, ◌≤◌, ◌⊎◌, ⊎_elim, arith, Bool, true, false, List, [], ◌∷◌, ◌++◌, ◌||◌, nat_eq, Option, map, refl, take, drop, drop-cons, get_or, length, add-one}
+use Rattle.std.proofs.Common.{◌≡◌, ◌∙◌, sym, ap, subst, ℕ, zero, suc, ◌+◌, ◌<◌, ◌≤◌, ⊎_elim, arith, Bool, true, false, List, [], ◌∷◌, ◌++◌, ◌||◌, nat_eq, Option, map, refl, drop, drop-cons, get_or, length, add-one}
 use Rattle.tb_base.specs.declared.op.Op.{Op}
 use Rattle.std.proofs.lemmas.Bool.{cases_eq}
 use Rattle.std.proofs.lemmas.List.{get_or_past}
@@ -136,9 +136,9 @@ pub lists_more : (lists : List (List ℕ)) (list : List ℕ) (equations : List E
     → (x y : ℕ) → x < i + 1 → reads_in (lists ++ list ∷ []) x y ≡ equation_reads (get_or equations x no_equation) y
 lists_more lists list equations i l h g x y b = ⊎_elim
     (λ e. subst (λ z. reads_in (lists ++ list ∷ []) z y ≡ equation_reads (get_or equations z no_equation) y) (sym e)
-        (ap (λ (o : List ℕ). has o y) (subst (λ n. get_or (lists ++ list ∷ []) n [] ≡ list) l (at_new lists list [])) ∙ g y))
+    (ap (λ (o : List ℕ). has o y) (subst (λ n. get_or (lists ++ list ∷ []) n [] ≡ list) l (at_new lists list [])) ∙ g y))
     (λ n. let k : x < i = less n in
-        ap (λ (o : List ℕ). has o y) (at_old lists list [] x (subst (λ m. x < m) (sym l) k)) ∙ h x y k)
+    ap (λ (o : List ℕ). has o y) (at_old lists list [] x (subst (λ m. x < m) (sym l) k)) ∙ h x y k)
     (cases_eq x i)
   where
     less : (x ≡ i → ⊥) → x < i

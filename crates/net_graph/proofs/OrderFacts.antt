@@ -1,10 +1,10 @@
 -- Orders grow at their end.
-use Rattle.std.proofs.Common.{◌≡◌, ◌∙◌, sym, ap, subst, ℕ, zero, suc, ◌+◌, ◌<◌, ◌≤◌, Bool, true, false, List, [], ◌∷◌, ◌++◌, ◌||◌, nat_eq, ◌⊎◌, inl, inr, refl, arith, ⊎_elim, length, take, get_or, set, replicate}
-use Rattle.std.proofs.lemmas.Bool.{or_cases, or_left, or_right, eq-eqb, ne_eqb, cases_eq, both_ways}
+use Rattle.std.proofs.Common.{◌≡◌, ◌∙◌, sym, ap, subst, ℕ, zero, suc, ◌+◌, ◌<◌, Bool, true, false, List, [], ◌∷◌, ◌++◌, ◌||◌, nat_eq, ◌⊎◌, inl, inr, refl, arith, length, set, replicate}
+use Rattle.std.proofs.lemmas.Bool.{or_left, or_right, eq-eqb, ne_eqb, cases_eq}
 use Rattle.std.proofs.lemmas.List.{length-set}
 use Rattle.net_core.specs.Rules.{has}
 use Rattle.net_graph.specs.Graphs.{reads_in, Follows}
-use Rattle.net_graph.specs.Taking.{left, is_taken, Taken, Waits, StuckBelow, Furthest}
+use Rattle.net_graph.specs.Taking.{left, is_taken, Taken, StuckBelow, Furthest}
 use Rattle.net_graph.proofs.HasFacts.{has_append}
 
 follows_more : (reads : ℕ → ℕ → Bool) (seen xs : List ℕ) (x : ℕ) → Follows reads seen xs → (has xs x || has seen x) ≡ false

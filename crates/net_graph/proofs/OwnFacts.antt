@@ -1,5 +1,5 @@
 -- Reads between the signals of the circuit.
-use Rattle.std.proofs.Common.{◌≡◌, ◌≢◌, ◌∙◌, sym, ap, subst, ℕ, zero, suc, ◌+◌, ◌<◌, ◌≤◌, Bool, true, false, List, [], ◌∷◌, ◌++◌, ◌||◌, nat_eq, nat_lt, ◌⊎◌, inl, inr, refl, arith, ⊎_elim, length, take, drop, drop-cons, add-one, get_or, if◌then◌else◌}
+use Rattle.std.proofs.Common.{◌≡◌, ◌∙◌, sym, ap, subst, ℕ, zero, suc, ◌+◌, ◌<◌, ◌≤◌, Bool, true, false, List, [], ◌∷◌, ◌++◌, ◌||◌, nat_eq, nat_lt, ◌⊎◌, inl, inr, refl, arith, ⊎_elim, length, drop, drop-cons, add-one, get_or, if◌then◌else◌}
 use Rattle.std.proofs.lemmas.Bool.{or_cases, or_left, or_right, eq-eqb, eqb-true, cases_eq, cases_Bool}
 use Rattle.std.specs.Prelude.{IfSome, IfNone, Option, None, Some}
 use Rattle.std.proofs.lemmas.Grind.{common_steps}
@@ -131,9 +131,9 @@ earlier reads seen (a ∷ rest) f x y h r = first (cases_eq x a) (or_cases (nat_
     later : (x ≡ a → ⊥) → (has (a ∷ seen) y ≡ true) ⊎ ((has rest y ≡ true) × (rank rest y < rank rest x)) → (has seen y ≡ true) ⊎ ((has (a ∷ rest) y ≡ true) × (rank (a ∷ rest) y < rank (a ∷ rest) x))
     later n (inl m) = ⊎_elim
         (λ e. let q : y ≡ a = eqb-true y a e in
-            let s : rank (a ∷ rest) y ≡ 0 = rank_first y q in
-            let t : rank (a ∷ rest) x ≡ suc (rank rest x) = rank_other x n in
-            inr (or_left (nat_eq y a) (has rest y) e, omega (arith, s, t)))
+        let s : rank (a ∷ rest) y ≡ 0 = rank_first y q in
+        let t : rank (a ∷ rest) x ≡ suc (rank rest x) = rank_other x n in
+        inr (or_left (nat_eq y a) (has rest y) e, omega (arith, s, t)))
         (λ k. inl k)
         (or_cases (nat_eq y a) (has seen y) m)
     later n (inr p) = below (cases_eq y a)
@@ -166,7 +166,7 @@ ranked_over : (reads : ℕ → ℕ → Bool) (own : ℕ) (order : List ℕ) → 
 ranked_over reads own order f x y h r = ⊎_elim
     (λ d. ranked reads order f x y h d)
     (λ c. let a = ranked reads order f x c.0 h c.2 in let b = ranked reads order f c.0 y a.0 c.3 in
-        let p : rank order c.0 < rank order x = a.1 in let q : rank order y < rank order c.0 = b.1 in (b.0, omega (arith, p, q)))
+    let p : rank order c.0 < rank order x = a.1 in let q : rank order y < rank order c.0 = b.1 in (b.0, omega (arith, p, q)))
     r.way
 
 falls_along : (reads : ℕ → ℕ → Bool) (own : ℕ) (order : List ℕ) → Follows reads [] order → (x : ℕ) (xs : List ℕ) (p : ℕ) → has order x ≡ true → Leads (ReadsOver reads own) x xs p → rank order p + length xs ≤ rank order x
@@ -202,19 +202,22 @@ more_steps reads own x y p r w = (x ∷ w.0, omega arith, (refl, y, r, w.2))
 
 path_way : (reads : ℕ → ℕ → Bool) (own : ℕ) → ((c y : ℕ) → own ≤ c → reads c y ≡ true → y < own) → (p : ℕ) → p < own
     → (x : ℕ) → Path (rules_of reads) p x → (x < own → Way reads own x p) × (own ≤ x → (z : ℕ) → z < own → reads z x ≡ true → Way reads own z p)
-path_way reads own cond p hp x (last _ r) =
-    ((λ h. one_step reads own x p (record { reader = h; read = hp; way = inl r })),
-    (λ o z h q. one_step reads own z p (record { reader = h; read = hp; way = inr (x, o, q, r) })))
+path_way reads own cond p hp x (last _ r) = (
+  (λ h. one_step reads own x p (record { reader = h; read = hp; way = inl r })),
+  (λ o z h q. one_step reads own z p (record { reader = h; read = hp; way = inr (x, o, q, r) })),
+)
 path_way reads own cond p hp x (more _ y r t) = go (path_way reads own cond p hp y t) (before_or_past y own)
   where
     go : (y < own → Way reads own y p) × (own ≤ y → (z : ℕ) → z < own → reads z y ≡ true → Way reads own z p) → (y < own) ⊎ (own ≤ y)
         → (x < own → Way reads own x p) × (own ≤ x → (z : ℕ) → z < own → reads z x ≡ true → Way reads own z p)
-    go w (inl b) =
-        ((λ h. more_steps reads own x y p (record { reader = h; read = b; way = inl r }) (w.0 b)),
-        (λ o z h q. more_steps reads own z y p (record { reader = h; read = b; way = inr (x, o, q, r) }) (w.0 b)))
-    go w (inr b) =
-        ((λ h. w.1 b x h r),
-        (λ o z h q. absurd (let k : y < own = cond x y o r in omega (arith, b, k))))
+    go w (inl b) = (
+      (λ h. more_steps reads own x y p (record { reader = h; read = b; way = inl r }) (w.0 b)),
+      (λ o z h q. more_steps reads own z y p (record { reader = h; read = b; way = inr (x, o, q, r) }) (w.0 b)),
+    )
+    go w (inr b) = (
+      (λ h. w.1 b x h r),
+      (λ o z h q. absurd (let k : y < own = cond x y o r in omega (arith, b, k))),
+    )
 
 loop_of_path : (reads : ℕ → ℕ → Bool) (own : ℕ) → ((c y : ℕ) → own ≤ c → reads c y ≡ true → y < own) → NoLoops (ReadsOver reads own) → NoCycle (rules_of reads)
 loop_of_path reads own cond none x t = at x t (before_or_past x own)
@@ -236,8 +239,8 @@ unfolding IsDistinct
 no_loop_full lists own order cond within f none short =
     let s = f.short short in
     chase (rules_of (reads_in lists)) (length lists) (λ z. (z < length lists) × (has order z ≡ false)) (loop_of_path (reads_in lists) own cond none) (λ z l. l.0)
-        (λ z l. let w = f.stuck z l.0 l.1 in (w.0, w.1, (within z w.0 w.1, w.2)))
-        (length lists) s.0 [] (s.1, s.2) refl tt (λ z k. cc) (λ z k. cc) (zero_plus (length lists))
+    (λ z l. let w = f.stuck z l.0 l.1 in (w.0, w.1, (within z w.0 w.1, w.2)))
+    (length lists) s.0 [] (s.1, s.2) refl tt (λ z k. cc) (λ z k. cc) (zero_plus (length lists))
 
 -- ---- the results
 pub over_same : (R S : ℕ → ℕ → Bool) (own : ℕ) → ((x y : ℕ) → R x y ≡ S x y) → (x y : ℕ) → ReadsOver R own x y → ReadsOver S own x y

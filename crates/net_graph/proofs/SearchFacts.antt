@@ -1,13 +1,12 @@
 -- Walks to the least of the nearest, and where they begin.
-use Rattle.std.proofs.Common.{◌≡◌, ◌≢◌, ◌∙◌, sym, ap, subst, ℕ, zero, suc, ◌+◌, ◌<◌, ◌≤◌, Bool, true, false, List, [], ◌∷◌, ◌++◌, nat_eq, ◌⊎◌, inl, inr, refl, arith, ⊎_elim, length, take, get_or}
-use Rattle.std.proofs.lemmas.Bool.{cases_eq, both_ways}
+use Rattle.std.proofs.Common.{◌≡◌, ◌∙◌, sym, ap, subst, ℕ, zero, suc, ◌+◌, ◌<◌, ◌≤◌, true, List, [], ◌∷◌, ◌++◌, ◌⊎◌, inl, inr, refl, arith, ⊎_elim, length, take, get_or}
 use Rattle.std.specs.declared.vec.Vec.{Vec}
 use Rattle.std.specs.declared.alloc.Global.{Global}
 use Rattle.net_core.specs.Rules.{has}
 use Rattle.net_graph.specs.Graphs.{reads_in, Within}
 use Rattle.net_graph.specs.Readers.{in_row, Turned}
 use Rattle.net_graph.specs.Distances.{distance_of, Measures}
-use Rattle.net_graph.specs.Loops.{Leads, IsLoopFrom, NoLoops}
+use Rattle.net_graph.specs.Loops.{Leads, IsLoopFrom}
 use Rattle.net_graph.specs.Falling.{Reads, Falls, NearestIn, NearerOf}
 use Rattle.net_graph.proofs.HasFacts.{has_at, has_take}
 use Rattle.net_graph.proofs.LoopFacts.{Nearest}

@@ -8,3 +8,4 @@ pub mod Falling
 pub mod NetGraphs
 pub mod Reaching
 pub mod Uniting
+pub mod Examples

@@ -1,7 +1,6 @@
 -- Lists in which each number reads the next: chains and loops. A graph says of each two numbers whether the first reads the second.
-use Rattle.std.specs.Prelude.{◌≡◌, ℕ, ◌<◌, ◌≤◌, true, List, [], ◌∷◌, ◌++◌, length}
+use Rattle.std.specs.Prelude.{◌≡◌, ℕ, ◌<◌, ◌≤◌, List, [], ◌∷◌, ◌++◌, length}
 use Rattle.net_core.specs.Depends.{NotAfter}
-use Rattle.net_graph.specs.Graphs.{reads_in}
 
 -- the list begins at x and each in it reads the next, the last of them p; the empty list leads from x to x alone
 abbrev pub Leads : (ℕ → ℕ → Type 0) → ℕ → List ℕ → ℕ → Type 0

@@ -1,5 +1,5 @@
 -- What is reached by reads, and tables of what each number reaches.
-use Rattle.std.specs.Prelude.{◌≡◌, ◌↔◌, ℕ, ◌<◌, ◌-◌, Bool, true, false, List, [], ◌∷◌, ◌||◌, ◌&&◌, length, if◌then◌else◌, nat_lt, nat_eq, slice_index_or}
+use Rattle.std.specs.Prelude.{◌≡◌, ◌↔◌, ℕ, ◌<◌, ◌-◌, Bool, true, List, ◌&&◌, length, if◌then◌else◌, nat_lt, nat_eq, slice_index_or}
 use Rattle.std.specs.Int.{bit_at}
 use Rattle.net_core.specs.declared.tree.Net.{Net}
 use Rattle.net_core.specs.Signals.{info, is_input}

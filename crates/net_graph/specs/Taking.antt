@@ -27,7 +27,6 @@ Waits lists taken x = (y : ℕ) × (reads_in lists x y ≡ true) × (is_taken ta
 abbrev pub StuckBelow : List (List ℕ) → List Bool → ℕ → Type 0
 StuckBelow lists taken n = (x : ℕ) → x < n → is_taken taken x ≡ false → Waits lists taken x
 
-
 -- an order that goes as far as it can: what isn't in it reads something that isn't
 pub record Furthest (lists : List (List ℕ)) (order : List ℕ) : Type 0 where
   pub follows : Follows (reads_in lists) [] order

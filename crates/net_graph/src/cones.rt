@@ -9,8 +9,8 @@ ghost use Rattle.net_graph.specs.Reaching.{in_set, in_row_of, input_at, RightAt,
 ghost use Rattle.net_graph.specs.Loops.{IsNamedChain};
 ghost use Rattle.net_graph.specs.Uniting.{in_one_of};
 
-use crate::inputs::InputSet;
 use crate::contract::own_lists;
+use crate::inputs::InputSet;
 use crate::level::{LevelOrder, signals_of};
 use crate::mention::read_lists;
 use crate::search::least_chain;

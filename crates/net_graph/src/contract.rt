@@ -34,7 +34,11 @@ fn contracted(alloc: Global, lists: &[Seq<u32>], own: u32, list: &[u32]) -> Resu
 /// What each of the first `own` numbers reads, with all others replaced by what they read.
 ///
 /// The time and the memory are linear in the length of the lists that it gives.
-pub(crate) fn own_lists(alloc: Global, lists: &[Seq<u32>], own: u32) -> Result<Vec<Seq<u32>>, Memory>
+pub(crate) fn own_lists(
+    alloc: Global,
+    lists: &[Seq<u32>],
+    own: u32,
+) -> Result<Vec<Seq<u32>>, Memory>
     requires { own ≤ length lists.now }
     ensures places { IfOk result (λ v. length v.items ≡ own) }
     ensures reads { IfOk result (λ v. (x y : ℕ) → x < own → reads_in v.items x y ≡ some_stands_for lists.now own (slice_index_or lists.now x []) y) }

@@ -64,7 +64,12 @@ fn next_level(
 /// The distance of each number to the target, and `far`, which is how many there are, where nothing leads there.
 ///
 /// The time is linear in the numbers and their reads.
-pub(crate) fn distances(alloc: Global, readers: &[Vec<u32>], target: u32, far: u32) -> Result<Vec<u32>, Memory>
+pub(crate) fn distances(
+    alloc: Global,
+    readers: &[Vec<u32>],
+    target: u32,
+    far: u32,
+) -> Result<Vec<u32>, Memory>
     requires target { target < far }
     requires places { (z k : ℕ) → in_row readers.now z k ≡ true → k < far }
     ensures places { IfOk result (λ v. length v.items ≡ far) }

@@ -77,17 +77,22 @@ fn add_choices(choices: &[Choice], found: &mut Vec<u32>) -> Result<(), Memory>
     Ok(())
 }
 
+fn choice_list(alloc: Global, choices: &[Choice]) -> Result<Seq<u32>, Memory>
+    ensures { IfOk result (λ list. Grown [] list (choices_read (choices_of choices.now))) }
+{
+    let mut found = Vec::new(alloc);
+    add_choices(choices, &mut found)?;
+    Ok(Seq::of(found))
+}
+
 /// What an equation reads within a cycle: an input and a register read nothing.
 fn reads_of(alloc: Global, equation: &Equation) -> Result<Seq<u32>, Memory>
     ensures { IfOk result (λ list. Grown [] list (equation_reads equation.now)) }
 {
     match equation {
-        Equation::Input | Equation::Reg { .. } => Ok(Seq::of(Vec::new(alloc))),
-        Equation::Comb(choices) => {
-            let mut found = Vec::new(alloc);
-            add_choices(choices.items(), &mut found)?;
-            Ok(Seq::of(found))
-        }
+        Equation::Input => Ok(Seq::of(Vec::new(alloc))),
+        Equation::Reg { .. } => Ok(Seq::of(Vec::new(alloc))),
+        Equation::Comb(choices) => Ok(choice_list(alloc, choices.items())?),
     }
 }
 

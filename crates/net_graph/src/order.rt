@@ -24,7 +24,12 @@ fn all_taken(list: &[u32], taken: &[bool]) -> bool
 }
 
 /// Takes the number if it isn't taken yet and reads only what is, and says whether it did.
-fn take_ready(lists: &[Seq<u32>], x: usize, taken: &mut [bool], order: &mut Vec<u32>) -> Result<bool, Memory>
+fn take_ready(
+    lists: &[Seq<u32>],
+    x: usize,
+    taken: &mut [bool],
+    order: &mut Vec<u32>,
+) -> Result<bool, Memory>
     requires place { x < length lists.now }
     requires few { length lists.now < 2 ^ 32 }
     requires taken { Taken lists.now order.old.items taken.old }
@@ -60,7 +65,13 @@ fn sweep(lists: &[Seq<u32>], taken: &mut [bool], order: &mut Vec<u32>) -> Result
 }
 
 /// Counts one read of the number as done, and takes it if it was the last.
-fn count_down(lists: &[Seq<u32>], x: usize, unread: &mut [u32], taken: &mut [bool], order: &mut Vec<u32>) -> Result<(), Memory>
+fn count_down(
+    lists: &[Seq<u32>],
+    x: usize,
+    unread: &mut [u32],
+    taken: &mut [bool],
+    order: &mut Vec<u32>,
+) -> Result<(), Memory>
     requires few { length lists.now < 2 ^ 32 }
     requires unread { length unread.old ≡ length lists.now }
     requires taken { Taken lists.now order.old.items taken.old }
@@ -130,7 +141,11 @@ fn no_marks(alloc: Global, lists: &[Seq<u32>]) -> Result<Vec<bool>, Memory>
 /// one. `readers` says for each number what reads it.
 ///
 /// The time is linear in the numbers and their reads.
-pub(crate) fn furthest_order(alloc: Global, lists: &[Seq<u32>], readers: &[Vec<u32>]) -> Result<Vec<u32>, Memory>
+pub(crate) fn furthest_order(
+    alloc: Global,
+    lists: &[Seq<u32>],
+    readers: &[Vec<u32>],
+) -> Result<Vec<u32>, Memory>
     requires { length lists.now < 2 ^ 32 }
     ensures { IfOk result (λ order. Furthest lists.now order.items) }
 {

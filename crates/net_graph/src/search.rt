@@ -118,7 +118,12 @@ pub(crate) fn least_loop(alloc: Global, lists: &[Seq<u32>]) -> Result<Option<Vec
 }
 
 /// The named chain from a number to another. The time is linear in the numbers and their reads.
-pub(crate) fn least_chain(alloc: Global, lists: &[Seq<u32>], from: u32, to: u32) -> Result<Vec<u32>, Memory>
+pub(crate) fn least_chain(
+    alloc: Global,
+    lists: &[Seq<u32>],
+    from: u32,
+    to: u32,
+) -> Result<Vec<u32>, Memory>
     requires few { length lists.now < 2 ^ 32 }
     requires within { Within lists.now }
     requires to { to < length lists.now }

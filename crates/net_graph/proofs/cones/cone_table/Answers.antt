@@ -1,4 +1,4 @@
-use Rattle.std.proofs.Common.{◌≡◌, ◌∙◌, sym, ap, subst, ℕ, Bool, true, List, ◌<◌, length, arith, refl}
+use Rattle.std.proofs.Common.{◌≡◌, ◌∙◌, sym, ap, subst, ℕ, true, List, ◌<◌, length, arith, refl}
 use Rattle.std.proofs.lemmas.Grind.{common_steps}
 use Rattle.std.specs.Prelude.{◌↔◌}
 use Rattle.net_core.specs.Nets.{net_reads}
@@ -7,7 +7,7 @@ use Rattle.net_core.specs.declared.tree.SignalInfo.{SignalInfo}
 use Rattle.net_graph.specs.declared.inputs.InputSet.{InputSet}
 use Rattle.net_graph.specs.Graphs.{reads_in, IsOrder}
 use Rattle.net_graph.specs.NetGraphs.{numbers}
-use Rattle.net_graph.specs.Reaching.{in_row_of, input_at, Reached}
+use Rattle.net_graph.specs.Reaching.{in_row_of, Reached}
 use Rattle.net_graph.proofs.ConeFacts.{order_to, right_same}
 use Rattle.net_graph.proofs.cones.cone_table.Goals as goal
 

@@ -1,6 +1,6 @@
-use Rattle.std.proofs.Common.{◌≡◌, ◌∙◌, sym, ap, subst, ℕ, Bool, true, List, ◌<◌, ◌||◌, ◌&&◌, nat_eq, length, get_or, set, [], take, arith}
+use Rattle.std.proofs.Common.{◌≡◌, ◌∙◌, sym, ap, subst, ℕ, true, List, ◌<◌, ◌||◌, ◌&&◌, nat_eq, length, get_or, set, [], arith}
 use Rattle.std.proofs.lemmas.Grind.{common_steps}
-use Rattle.std.proofs.lemmas.List.{length-set, take_all}
+use Rattle.std.proofs.lemmas.List.{length-set}
 use Rattle.net_core.specs.Rules.{has}
 use Rattle.net_core.specs.Signals.{info, is_input}
 use Rattle.net_core.specs.declared.ports.Signal.{Signal}
@@ -29,12 +29,12 @@ loop-signal-preserved c =
     let q : get_or N c.loop-signal.signal-index 0 ≡ a = number_at c.args.order.now c.loop-signal.signal-index in
     let h : c.loop-signal.signal-index < length N = subst (λ z. c.loop-signal.signal-index < z) (sym (numbers_length c.args.order.now)) c.loop-signal-test.true in
     let b : a < length c.loop-signal.sets = subst (λ n. a < n) (sym c.loop-signal.invariant.places)
-        (in_order c.args.order.now c.loop-signal.signal-index (length c.args.lists.now) c.loop-signal-test.true c.requires.order.own) in
+    (in_order c.args.order.now c.loop-signal.signal-index (length c.args.lists.now) c.loop-signal-test.true c.requires.order.own) in
     let i1 : c.is_input.result ≡ is_input (info c.args.signals.now a).role = c.is_input.ensures in
     let l1 : c.items.result.now ≡ get_or c.args.lists.now a [] = grind (arith, common_steps) in
     let e : (p : ℕ) → in_set c.cone_of.result p ≡ ((is_input (info c.args.signals.now a).role && nat_eq p a) || in_one_of (get_or c.args.lists.now a []) c.loop-signal.sets p) = λ p.
-        c.cone_of.ensures p ∙ ap (λ t. (t && nat_eq p a) || in_one_of c.items.result.now c.loop-signal.sets p) i1
-        ∙ ap (λ (t : List ℕ). (is_input (info c.args.signals.now a).role && nat_eq p a) || in_one_of t c.loop-signal.sets p) l1 in
+    c.cone_of.ensures p ∙ ap (λ t. (t && nat_eq p a) || in_one_of c.items.result.now c.loop-signal.sets p) i1
+    ∙ ap (λ (t : List ℕ). (is_input (info c.args.signals.now a).role && nat_eq p a) || in_one_of t c.loop-signal.sets p) l1 in
     record {
       places = length-set c.loop-signal.sets a c.cone_of.result ∙ c.loop-signal.invariant.places;
       done = λ x m. subst (λ z. RightAt (reads_in c.args.lists.now) (λ p. is_input (info c.args.signals.now p).role) (set c.loop-signal.sets z c.cone_of.result) x) q

@@ -1,4 +1,4 @@
-use Rattle.std.proofs.Common.{◌≡◌, ◌-◌}
+use Rattle.std.proofs.Common.{◌-◌}
 use Rattle.net_graph.specs.Distances.{Level}
 use Rattle.net_graph.proofs.distance.distances.Given as goal
 

@@ -23,11 +23,11 @@ loop-x-preserved c =
     let f : has c.args.front.now z ≡ true = has_at c.args.front.now c.loop-z.z-index 0 c.loop-z-test.true in
     let s : Step x c.args.far c.args.level c.loop-x.distances c.loop-x.next.items c.reach.new.distances c.reach.new.next.items = c.in_ok-reach.ensures.step in
     let keeps : (y : ℕ) → distance_of c.loop-x.distances c.args.far y < c.args.far → distance_of c.reach.new.distances c.args.far y < c.args.far
-        = step_keeps c.args.readers.now c.args.far c.args.level c.args.front.now c.args.distances.now c.loop-x.distances c.loop-x.next.items c.reach.new.distances c.reach.new.next.items x
-          c.loop-x.invariant.spread s h c.requires.room in
+    = step_keeps c.args.readers.now c.args.far c.args.level c.args.front.now c.args.distances.now c.loop-x.distances c.loop-x.next.items c.reach.new.distances c.reach.new.next.items x
+    c.loop-x.invariant.spread s h c.requires.room in
     let here : distance_of c.reach.new.distances c.args.far x < c.args.far
-        = step_here c.args.readers.now c.args.far c.args.level c.args.front.now c.args.distances.now c.loop-x.distances c.loop-x.next.items c.reach.new.distances c.reach.new.next.items x
-          c.loop-x.invariant.spread s h c.requires.room in
+    = step_here c.args.readers.now c.args.far c.args.level c.args.front.now c.args.distances.now c.loop-x.distances c.loop-x.next.items c.reach.new.distances c.reach.new.next.items x
+    c.loop-x.invariant.spread s h c.requires.room in
     record {
       spread = spread_step c.args.readers.now c.args.far c.args.level c.args.front.now c.args.distances.now c.loop-x.distances c.loop-x.next.items c.reach.new.distances c.reach.new.next.items x z
           c.loop-x.invariant.spread s h f r c.requires.room;
@@ -43,7 +43,7 @@ loop-z-preserved c =
     let n : length c.row-x-items.result.now ≤ c.loop-x.x-index = omega arith in
     let t : take c.loop-x.x-index c.row-x-items.result.now ≡ c.row-x-items.result.now = take_all c.loop-x.x-index c.row-x-items.result.now n in
     let here : (x : ℕ) → in_row c.args.readers.now z x ≡ true → distance_of c.loop-x.distances c.args.far x < c.args.far
-        = λ x r. c.loop-x.invariant.here x (ap (λ (o : List ℕ). has o x) t ∙ c.row-x-items.ensures x ∙ r) in
+    = λ x r. c.loop-x.invariant.here x (ap (λ (o : List ℕ). has o x) t ∙ c.row-x-items.ensures x ∙ r) in
     record {
       spread = c.loop-x.invariant.spread;
       all = λ x w m r. ⊎_elim (λ a. c.loop-x.invariant.all x w a r) (λ e. here x (subst (λ q. in_row c.args.readers.now q x ≡ true) e r))

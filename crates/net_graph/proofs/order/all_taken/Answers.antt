@@ -1,4 +1,4 @@
-use Rattle.std.proofs.Common.{◌≡◌, ℕ, ◌<◌, true, false, arith, length, take, get_or, subst, sym, ⊎_elim}
+use Rattle.std.proofs.Common.{◌≡◌, true, false, arith, get_or, subst, sym, ⊎_elim}
 use Rattle.std.proofs.lemmas.Grind.{common_steps}
 use Rattle.net_graph.specs.Taking.{is_taken}
 use Rattle.net_graph.proofs.HasFacts.{has_at, has_take}

@@ -1,4 +1,4 @@
-use Rattle.std.proofs.Common.{◌≡◌, ℕ, ◌<◌, ◌≤◌, true, false, arith, length, get_or, subst, sym, ◌++◌, ◌∷◌, [], List, slice_set, suc}
+use Rattle.std.proofs.Common.{◌≡◌, ℕ, ◌<◌, true, false, arith, length, subst, sym, ◌++◌, ◌∷◌, [], slice_set, suc}
 use Rattle.std.proofs.lemmas.Grind.{common_steps}
 use Rattle.net_core.specs.Rules.{has}
 use Rattle.net_graph.specs.Graphs.{reads_in}
@@ -11,9 +11,9 @@ returns-clause-taken c =
     let f : is_taken c.args.taken.now c.args.x ≡ false = grind (arith, common_steps) in
     let e : c.push.new.self.items ≡ c.args.order.now.items ++ c.args.x ∷ [] = grind (arith, common_steps) in
     let b : (y : ℕ) → reads_in c.args.lists.now c.args.x y ≡ true → is_taken c.args.taken.now y ≡ true = λ y r.
-        let k : has c.items.result.now y ≡ true = grind (arith, common_steps) in
-        let a : c.all_taken.result ≡ true = grind (arith, common_steps) in
-        c.all_taken.ensures.yes a y k in
+    let k : has c.items.result.now y ≡ true = grind (arith, common_steps) in
+    let a : c.all_taken.result ≡ true = grind (arith, common_steps) in
+    c.all_taken.ensures.yes a y k in
     subst (λ o. Taken c.args.lists.now o (slice_set c.args.taken.now c.args.x true)) (sym e)
     (taken_one c.args.lists.now c.args.order.now.items c.args.taken.now c.args.x c.requires.place c.requires.taken f b)
 

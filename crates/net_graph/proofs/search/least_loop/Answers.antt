@@ -1,4 +1,4 @@
-use Rattle.std.proofs.Common.{◌≡◌, ℕ, ◌<◌, ◌≤◌, length, arith, ⊎_elim, ◌⊎◌}
+use Rattle.std.proofs.Common.{◌≤◌, length, arith, ⊎_elim}
 use Rattle.std.proofs.lemmas.Grind.{common_steps}
 use Rattle.net_graph.proofs.SearchFacts.{no_loop_past, before_or_past}
 use Rattle.net_graph.proofs.search.least_loop.Goals as goal

@@ -1,5 +1,4 @@
-use Rattle.std.proofs.Common.{◌≡◌, ◌∙◌, ap, sym, ℕ, ◌-◌, ◌^◌, arith, ◌≤◌}
-use Rattle.net_graph.specs.declared.inputs.InputSet.{InputSet}
+use Rattle.std.proofs.Common.{◌∙◌, ap, arith, ◌≤◌}
 use Rattle.net_graph.specs.Reaching.{in_set}
 use Rattle.net_graph.proofs.ConeFacts.{one_low, one_high, set_of}
 use Rattle.net_graph.proofs.inputs.InputSet.of.Goals as goal
