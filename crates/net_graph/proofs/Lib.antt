@@ -1,0 +1,9 @@
+pub mod HasFacts
+pub mod OrderFacts
+pub mod ReaderFacts
+pub mod MentionFacts
+pub mod LoopFacts
+pub mod DistanceFacts
+pub mod SearchFacts
+pub mod OwnFacts
+pub mod ConeFacts

@@ -1,0 +1,11 @@
+pub mod Graphs
+pub mod Taking
+pub mod Readers
+pub mod Mentions
+pub mod Loops
+pub mod Distances
+pub mod Falling
+pub mod NetGraphs
+pub mod Reaching
+pub mod Uniting
+pub mod Examples

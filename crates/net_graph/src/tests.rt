@@ -1,0 +1,48 @@
+use crate::order::furthest_order;
+use crate::readers::readers_of;
+use std::alloc::Global;
+use std::test::Fail;
+use tb_base::{Memory, Seq};
+
+/// Three numbers, each with at most one that it reads.
+fn three(alloc: Global, reads: [Option<u32>; 3]) -> Result<Vec<Seq<u32>>, Memory> {
+    let mut lists = Vec::new(alloc);
+    for k in 0..3usize {
+        let mut list = Vec::new(alloc);
+        if let Some(y) = reads[k] {
+            list.push(y)?;
+        }
+        lists.push(Seq::of(list))?;
+    }
+    Ok(lists)
+}
+
+#[test]
+fn what_is_read_comes_first(rt: HostRuntime) -> Result<(), Fail> {
+    let lists = three(rt.alloc(), [Some(1), Some(2), None])
+        .ok()
+        .ok_or("no memory")?;
+    if lists.len() < 4 {
+        let readers = readers_of(rt.alloc(), &lists).ok().ok_or("no memory")?;
+        let order = furthest_order(rt.alloc(), &lists, &readers)
+            .ok()
+            .ok_or("no memory")?;
+        assert!(rt; order.as_slice() == &[2, 1, 0]);
+    }
+    Ok(())
+}
+
+#[test]
+fn a_loop_is_left_out(rt: HostRuntime) -> Result<(), Fail> {
+    let lists = three(rt.alloc(), [Some(1), Some(0), None])
+        .ok()
+        .ok_or("no memory")?;
+    if lists.len() < 4 {
+        let readers = readers_of(rt.alloc(), &lists).ok().ok_or("no memory")?;
+        let order = furthest_order(rt.alloc(), &lists, &readers)
+            .ok()
+            .ok_or("no memory")?;
+        assert!(rt; order.as_slice() == &[2]);
+    }
+    Ok(())
+}
