@@ -13,5 +13,7 @@ mod symbol;
 mod tests;
 mod text;
 
-pub use examples::{the_ends_work_out, the_spaces_work_out, the_tokens_work_out};
+pub use examples::{
+    places_are_counted, the_ends_work_out, the_spaces_work_out, the_tokens_work_out,
+};
 pub use text::{end_place, items};

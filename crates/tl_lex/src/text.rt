@@ -80,13 +80,10 @@ pub fn items(alloc: Global, text: &[u8]) -> Result<Vec<Item>, Memory>
 }
 
 /// The place behind the last byte of a text, where a fault at the end of its items stands. The time is linear.
+#[tactic(auto, using(crate::proofs::Places::behind_start))]
 pub fn end_place(text: &[u8]) -> Place
     requires { length text.now < 2 ^ 32 - 1 }
     ensures { result ≡ spec.end_of text.now }
 {
-    let mut place = Place { line: 1, column: 1 };
-    for byte in text {
-        place = place_after(place, *byte);
-    }
-    place
+    place_behind(Place { line: 1, column: 1 }, text)
 }
