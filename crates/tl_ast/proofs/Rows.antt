@@ -1,5 +1,5 @@
 -- The printed form of the tree, an equation for each variant.
-use Rattle.std.proofs.Common.{◌≡◌, ℕ, Bool, List, ◌++◌, sym, ap, ◌∙◌, map}
+use Rattle.std.proofs.Common.{◌≡◌, ℕ, List, ◌++◌, sym, ap, ◌∙◌, map}
 use Rattle.std.specs.Prelude.{Option, nat_lt, codes}
 use Rattle.std.specs.Fmt.{decimal}
 use Rattle.tb_base.specs.declared.path.Region.{Region}

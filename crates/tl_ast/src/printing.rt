@@ -16,8 +16,9 @@ use stmts::put_stmts;
 use tb_base::Memory;
 
 /// The printed form of any test: two spaces a level of nesting, one statement a line, one space
-/// between two tokens, parentheses only where the operators' tightness needs them. Lines of the
-/// tree don't matter. Takes time and memory linear in the text that it gives.
+/// between two tokens, parentheses only round operands whose operator is too loose for their place.
+/// Lines of the tree don't matter. The one refusal is `Memory`. Takes time and memory linear in the
+/// text that it gives.
 #[tactic(auto, unfolding(crate::specs::Printed::printed_test))]
 pub fn print_test(alloc: Global, test: &TestText) -> Result<Vec<u8>, Memory>
     ensures { IfOk result (λ text. text.items ≡ printed_test test.now) }
