@@ -1,2 +1,4 @@
 pub mod Limits
 pub mod ExprGrammar
+pub mod Printed
+pub mod Examples

@@ -40,7 +40,10 @@ pub enum TestStmt {
         value: TestExpr,
     },
     /// `step count;`
-    Step { line: u32, count: u128 },
+    Step {
+        line: u32,
+        count: u128,
+    },
     /// `let name = value;`
     Let {
         line: u32,
@@ -80,9 +83,15 @@ pub enum TestStmt {
         body: Items<TestStmt>,
     },
     /// `join handle;`
-    Join { line: u32, handle: Name },
+    Join {
+        line: u32,
+        handle: Name,
+    },
     /// `joinstep handle;`
-    JoinStep { line: u32, handle: Name },
+    JoinStep {
+        line: u32,
+        handle: Name,
+    },
     /// A driver of a ready-valid port. The kinds with a list have any number of values, those that expect nothing none, all others
     /// one.
     Driver {
@@ -92,7 +101,10 @@ pub enum TestStmt {
         values: Seq<TestExpr>,
     },
     /// `reset count;`
-    ResetFor { line: u32, count: u128 },
+    ResetFor {
+        line: u32,
+        count: u128,
+    },
 }
 
 /// Which driver it is.
