@@ -9,3 +9,9 @@ pub mod Agreed
 pub mod Moved
 pub mod HomeFacts
 pub mod LeafCounts
+pub mod Totals
+pub mod Unnumbered
+pub mod ValueCounts
+pub mod LeafFacing
+pub mod BodyCounts
+pub mod TreeCounts

@@ -3,7 +3,8 @@
 //! `specs/` has the definition. `Shapes` has types as plain data and their ground parts, `Bodies` a
 //! module's statements as plain data, `Values` what the ground parts of expressions are worth and how
 //! they are driven, `Modules` the recursion over instances, and `Elaboration` the elaboration itself,
-//! `elab`, with its counts. `Measures` and `Limits` have the counts without building anything.
+//! `elab`, with its counts. `Measures` and `Limits` have the counts without building anything, and
+//! `the_counts_are_exact` says that both agree.
 //!
 //! What the code does so far is to judge the three limits by those counts.
 #![tactic(auto)]
@@ -21,4 +22,4 @@ pub use examples::{
     the_adder_works_out, the_bundles_work_out, the_indices_work_out, the_instances_work_out,
     the_leaves_work_out, the_queue_works_out, the_sizes_count_leaves,
 };
-pub use limits::{FlatFault, check_limits};
+pub use limits::{FlatFault, check_limits, the_counts_are_exact};
