@@ -15,3 +15,5 @@ pub mod ValueCounts
 pub mod LeafFacing
 pub mod BodyCounts
 pub mod TreeCounts
+pub mod Ended
+pub mod Ranges

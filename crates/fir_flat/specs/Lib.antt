@@ -1,6 +1,7 @@
 pub mod Shapes
 pub mod Bodies
 pub mod Values
+pub mod Worths
 pub mod Kinds
 pub mod Counts
 pub mod Modules

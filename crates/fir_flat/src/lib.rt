@@ -17,6 +17,7 @@ mod limits;
 mod own;
 mod sizes;
 mod weights;
+mod worth;
 
 pub use examples::{
     the_adder_works_out, the_bundles_work_out, the_indices_work_out, the_instances_work_out,
