@@ -17,3 +17,4 @@ pub mod BodyCounts
 pub mod TreeCounts
 pub mod Ended
 pub mod Ranges
+pub mod PartFacts

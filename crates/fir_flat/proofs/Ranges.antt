@@ -1,8 +1,9 @@
 -- Lists made by a loop over numbers, and copies of lists.
 use Rattle.std.proofs.Common.{ℕ, ◌≡◌, ◌+◌, ◌∙◌, ◌≤◌, List, [], ◌∷◌, ◌++◌, length, map, take, refl, sym, ap, ap₂, arith}
 use Rattle.std.specs.List.{range_with_len, flat_map}
-use Rattle.std.proofs.lemmas.List.{append_assoc, map-append, take_all}
+use Rattle.std.proofs.lemmas.List.{append_assoc, append-nil, map-append, map-id, take_all}
 use Rattle.std.proofs.lemmas.List.FromFn.{map-range_with_len_more}
+use Rattle.std.proofs.lemmas.Grind.{flat_map-append}
 
 -- one number more
 pub range_more : {X : Type 0} (f : ℕ → X) (xs ys : List X) (n : ℕ) (x : X) → xs ≡ map f (range_with_len 0 n) → x ≡ f n → ys ≡ xs ++ x ∷ []
@@ -26,3 +27,13 @@ pub mapped_all : {X Y Z : Type 0} (g : Y → Z) (f : X → Y) (xs ys : List X) (
     → zs ≡ map g (map f ys)
 mapped_all g f xs ys n zs h e p =
     p ∙ ap (map (λ x. g (f x))) (take_all n xs h ∙ e) ∙ sym (map_map g f ys)
+
+range_next : (n : ℕ) → range_with_len 0 (n + 1) ≡ range_with_len 0 n ++ n ∷ []
+range_next n =
+    sym (map-id (range_with_len 0 (n + 1))) ∙ map-range_with_len_more (λ k. k) 0 n n (omega arith)
+    ∙ ap (λ xs. xs ++ n ∷ []) (map-id (range_with_len 0 n))
+
+pub joined_more : {X : Type 0} (f : ℕ → List X) (n : ℕ) → flat_map f (range_with_len 0 (n + 1)) ≡ flat_map f (range_with_len 0 n) ++ f n
+joined_more f n =
+    ap (flat_map f) (range_next n) ∙ flat_map-append f (range_with_len 0 n) (n ∷ [])
+    ∙ ap (λ xs. flat_map f (range_with_len 0 n) ++ xs) (append-nil (f n))

@@ -2,6 +2,7 @@ pub mod Shapes
 pub mod Bodies
 pub mod Values
 pub mod Worths
+pub mod Parts
 pub mod Kinds
 pub mod Counts
 pub mod Modules

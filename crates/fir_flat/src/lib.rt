@@ -15,6 +15,8 @@ mod homes;
 mod kinds;
 mod limits;
 mod own;
+mod partners;
+mod parts;
 mod sizes;
 mod weights;
 mod worth;
