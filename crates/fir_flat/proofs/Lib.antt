@@ -18,3 +18,4 @@ pub mod TreeCounts
 pub mod Ended
 pub mod Ranges
 pub mod PartFacts
+pub mod ResolveFacts

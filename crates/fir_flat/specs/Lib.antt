@@ -3,6 +3,7 @@ pub mod Bodies
 pub mod Values
 pub mod Worths
 pub mod Parts
+pub mod Resolving
 pub mod Kinds
 pub mod Counts
 pub mod Modules

@@ -17,6 +17,7 @@ mod limits;
 mod own;
 mod partners;
 mod parts;
+mod resolve;
 mod sizes;
 mod weights;
 mod worth;
