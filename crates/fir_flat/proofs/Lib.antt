@@ -19,3 +19,4 @@ pub mod Ended
 pub mod Ranges
 pub mod PartFacts
 pub mod ResolveFacts
+pub mod StatementFacts

@@ -4,6 +4,7 @@ pub mod Values
 pub mod Worths
 pub mod Parts
 pub mod Resolving
+pub mod Statements
 pub mod Kinds
 pub mod Counts
 pub mod Modules

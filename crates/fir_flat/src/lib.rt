@@ -19,6 +19,7 @@ mod partners;
 mod parts;
 mod resolve;
 mod sizes;
+mod statements;
 mod weights;
 mod worth;
 

@@ -88,7 +88,7 @@ fn sign_at(signs: &[bool], k: u32) -> bool
     }
 }
 
-fn number_at(numbers: &[u32], k: u32) -> u32
+pub(crate) fn number_at(numbers: &[u32], k: u32) -> u32
     ensures { result ≡ slice_index numbers.now k }
 {
     match numbers.get(k as usize) {
