@@ -20,3 +20,5 @@ pub mod Ranges
 pub mod PartFacts
 pub mod ResolveFacts
 pub mod StatementFacts
+pub mod PortFacts
+pub mod WritingFacts

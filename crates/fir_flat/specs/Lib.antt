@@ -5,6 +5,8 @@ pub mod Worths
 pub mod Parts
 pub mod Resolving
 pub mod Statements
+pub mod Ports
+pub mod Writing
 pub mod Kinds
 pub mod Counts
 pub mod Modules

@@ -17,11 +17,13 @@ mod limits;
 mod own;
 mod partners;
 mod parts;
+mod ports;
 mod resolve;
 mod sizes;
 mod statements;
 mod weights;
 mod worth;
+mod writing;
 
 pub use examples::{
     the_adder_works_out, the_bundles_work_out, the_indices_work_out, the_instances_work_out,
