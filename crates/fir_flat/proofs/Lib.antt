@@ -22,3 +22,4 @@ pub mod ResolveFacts
 pub mod StatementFacts
 pub mod PortFacts
 pub mod WritingFacts
+pub mod SignalFacts

@@ -14,7 +14,7 @@ use Rattle.fir_flat.specs.Parts.{turned_part, turned_parts, partners_behind}
 use Rattle.fir_flat.proofs.Rolled.{field-parts}
 use Rattle.fir_flat.proofs.Ranges.{map_map, joined_more}
 
-against_twice : (a b c : Bool) → not (same a (not (same b c))) ≡ not (same (not (same a b)) c)
+pub against_twice : (a b c : Bool) → not (same a (not (same b c))) ≡ not (same (not (same a b)) c)
 against_twice true true true = refl
 against_twice true true false = refl
 against_twice true false true = refl
@@ -85,13 +85,13 @@ partner_more start t u n before old new e h =
 
 -- loops over fields and ports
 
-beq_same : (a b : Bool) → beq a b ≡ same a b
+pub beq_same : (a b : Bool) → beq a b ≡ same a b
 beq_same true true = refl
 beq_same true false = refl
 beq_same false true = refl
 beq_same false false = refl
 
-next_dropped : {X : Type 0} (xs : List X) (i : ℕ) (x : X) → i < length xs → x ≡ get_or xs i x → drop i xs ≡ x ∷ drop (i + 1) xs
+pub next_dropped : {X : Type 0} (xs : List X) (i : ℕ) (x : X) → i < length xs → x ≡ get_or xs i x → drop i xs ≡ x ∷ drop (i + 1) xs
 next_dropped xs i x h is = drop_more xs i x h ∙ ap (λ y. y ∷ drop (i + 1) xs) (sym is)
 
 pub fields_more : (flip : Bool) (fs : List Field) (i : ℕ) (f : Field) (old new whole : List Part) → i < length fs → f ≡ get_or fs i f
@@ -108,7 +108,7 @@ fields_more flip fs i f old new whole h is e inv =
     written_more old new (turned_parts (not (beq flip (out-Field f).flip)) (shape_of (out-Field f).ty)) (turned_parts flip rest) whole e
     (ap (λ xs. old ++ xs) (sym s) ∙ inv)
 
-outward : (b : Bool) → not (same false (not b)) ≡ not b
+pub outward : (b : Bool) → not (same false (not b)) ≡ not b
 outward true = refl
 outward false = refl
 

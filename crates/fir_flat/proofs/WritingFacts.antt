@@ -8,6 +8,7 @@ use Rattle.fir_ast.specs.declared.tree.Expr.{Expr}
 use Rattle.fir_ast.specs.declared.tree.Ty.{Ty}
 use Rattle.fir_ast.specs.declared.tree.ResetPair.{ResetPair}
 use Rattle.fir_ast.specs.declared.tree.Module.{Module}
+use Rattle.fir_ast.specs.declared.tree.Port.{Port}
 use Rattle.fir_ast.specs.declared.tree.Stmt.{Stmt}
 use Rattle.fir_ast.specs.declared.tree.Stmt.TheVariants as stmt
 use Rattle.net_core.specs.declared.tree.GroundExpr.{GroundExpr}
@@ -19,15 +20,15 @@ use Rattle.fir_flat.specs.declared.kinds.Flow.TheVariants.{Free, Fixed}
 use Rattle.fir_flat.specs.declared.kinds.Known.{Known}
 use Rattle.fir_flat.specs.declared.statements.Reset.{Reset}
 use Rattle.fir_flat.specs.declared.writing.Written.{Written}
-use Rattle.fir_flat.specs.Shapes.{Shape, shape_of, size}
+use Rattle.fir_flat.specs.Shapes.{Shape, shape_of, ports_shape, size}
 use Rattle.fir_flat.specs.Bodies.{Body, done, wire, node, reg, inst, connect, invalid, when, level_body, statement, body_of}
 use Rattle.fir_flat.specs.Values.{Bound, bound, Value, value}
-use Rattle.fir_flat.specs.Modules.{taken_up, signals_in, place_of, instance}
-use Rattle.fir_flat.specs.Elaboration.{grounds, declare, reg_part, ground_reset}
+use Rattle.fir_flat.specs.Modules.{module_at, ports_known, taken_up, signals_in, place_of, instance}
+use Rattle.fir_flat.specs.Elaboration.{grounds, declare, reg_part, ground_reset, declare_ports, declared_inside, port_leaves}
 use Rattle.fir_flat.specs.Kinds.{bound_of, seen}
 use Rattle.fir_flat.specs.Statements.{reset_of, reg_ground, connect_grounds, invalid_grounds}
 use Rattle.fir_flat.specs.Ports.{takes}
-use Rattle.fir_flat.specs.Writing.{taken_by, Adds, AddsWire, AddsNode, AddsRegister, AddsInstance, Puts, IsReset, Writes, WritesBlock}
+use Rattle.fir_flat.specs.Writing.{taken_by, Adds, AddsWire, AddsNode, AddsRegister, AddsInstance, Puts, IsReset, Writes, WritesBlock, own_grounds}
 use Rattle.fir_flat.proofs.Unnumbered.{unnumbered, Alike, type-alike, more-alike}
 use Rattle.fir_flat.proofs.Moved.{whole, body-Node, body-Inst, body-Connect, body-Invalid, body-When}
 
@@ -199,3 +200,27 @@ names_more known after k e = ap seen e ∙ map-append bound_of known (k ∷ [])
 
 pub kept_more : (known after : List Known) (k : Known) → after ≡ known ++ k ∷ [] → take (length known) after ≡ known
 kept_more known after k e = ap (take (length known)) e ∙ take_at known (k ∷ []) (length known) refl
+
+-- the statements of an instance itself
+
+takes_own : (top : Bool) → takes top true ≡ declared_inside top
+takes_own top = fun_ext (at top) where
+  at : (t b : Bool) → takes t true b ≡ declared_inside t b
+  at true true = refl
+  at true false = refl
+  at false true = refl
+  at false false = refl
+
+pub own_written : (modules : List Module) (place first : ℕ) (top : Bool) (ps : List Port) (stmts : List Stmt) (known : List Known) (next : ℕ) (old middle body new : List Ground)
+    → ps ≡ (module_at modules place).ports → stmts ≡ (module_at modules place).body
+    → middle ≡ old ++ declare_ports (takes top true) first (port_leaves ps)
+    → seen known ≡ ports_known first ps → next ≡ first + size (ports_shape ps)
+    → body ≡ grounds modules (seen known) next (body_of stmts) → new ≡ middle ++ body
+    → new ≡ old ++ own_grounds modules place first top
+own_written modules place first top ps stmts known next old middle body new ep es em ek en eb e =
+    e ∙ ap₂ (λ (xs ys : List Ground). xs ++ ys) em eb
+    ∙ append_assoc old (declare_ports (takes top true) first (port_leaves ps)) (grounds modules (seen known) next (body_of stmts))
+    ∙ ap₂ (λ (ks : List Bound) (n : ℕ). old ++ (declare_ports (takes top true) first (port_leaves ps) ++ grounds modules ks n (body_of stmts))) ek en
+    ∙ ap₂ (λ (qs : List Port) (ss : List Stmt). old ++ (declare_ports (takes top true) first (port_leaves qs) ++ grounds modules (ports_known first qs) (first + size (ports_shape qs)) (body_of ss))) ep es
+    ∙ ap (λ (test : Bool → Bool). old ++ (declare_ports test first (port_leaves (module_at modules place).ports)
+    ++ grounds modules (ports_known first (module_at modules place).ports) (first + size (ports_shape (module_at modules place).ports)) (body_of (module_at modules place).body))) (takes_own top)

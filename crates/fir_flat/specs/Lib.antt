@@ -7,6 +7,7 @@ pub mod Resolving
 pub mod Statements
 pub mod Ports
 pub mod Writing
+pub mod Signals
 pub mod Kinds
 pub mod Counts
 pub mod Modules

@@ -1,5 +1,5 @@
 -- What is written of a body, statement by statement.
-use Rattle.std.specs.Prelude.{◌≡◌, ℕ, ◌+◌, Option, List, [], ◌∷◌, ◌++◌, length, take, slice_index, option_map, map}
+use Rattle.std.specs.Prelude.{◌≡◌, ℕ, ◌+◌, Bool, Option, List, [], ◌∷◌, ◌++◌, length, take, slice_index, option_map, map}
 use Rattle.std.specs.List.{range_with_len}
 use Rattle.fir_ast.specs.declared.tree.Module.{Module}
 use Rattle.fir_ast.specs.declared.tree.ResetPair.{ResetPair}
@@ -12,7 +12,7 @@ use Rattle.fir_flat.specs.Shapes.{Shape, size}
 use Rattle.fir_flat.specs.Bodies.{Body}
 use Rattle.fir_flat.specs.Values.{Bound, bound, Value, value}
 use Rattle.fir_flat.specs.Modules.{module_at, place_of, instance, taken_up, signals_in}
-use Rattle.fir_flat.specs.Elaboration.{grounds, ground_reset, declare_all, reg_part, declare_ports, port_leaves}
+use Rattle.fir_flat.specs.Elaboration.{grounds, ground_reset, declare_all, reg_part, declare_ports, port_leaves, own_body}
 use Rattle.fir_flat.specs.Counts.{cut}
 use Rattle.fir_flat.specs.Kinds.{seen}
 use Rattle.fir_flat.specs.Statements.{reset_of, node_grounds}
@@ -75,3 +75,7 @@ pub record WritesRest (modules : List Module) (whole left : Body) (known now : L
   pub body : grounds modules (seen known) first whole ≡ u.body.items ++ grounds modules (seen now) u.next left
   pub next : first + taken_by modules (seen known) whole ≡ u.next + taken_by modules (seen now) left
   pub kept : take (length known) now ≡ known
+
+-- the statements of an instance itself
+abbrev pub own_grounds : List Module → ℕ → ℕ → Bool → List Ground
+own_grounds modules place first top = own_body modules (record { target = place; first = first; prefix = []; top = top }) (module_at modules place)

@@ -258,7 +258,7 @@ fn write_stmt<'a>(
 /// Writes a block, of which the first signal has a number. Behind it, what it declares isn't known
 /// any more.
 #[cycle(write)]
-fn write_block<'a>(
+pub(crate) fn write_block<'a>(
     alloc: Global,
     modules: &'a [Module],
     counts: &[u64],
