@@ -2,13 +2,30 @@
 ghost use Rattle.std.specs.Prelude.{◌≡◌, ◌++◌, false, codes, decimal, IfOk, OnOk};
 ghost use Rattle.fir_flat.specs.Shapes.{ground, shape_of, fields_shape, ports_shape};
 ghost use Rattle.fir_flat.specs.Kinds.{kind_shape};
-ghost use Rattle.fir_flat.specs.Signals.{infos};
+ghost use Rattle.fir_flat.specs.Signals.{signals_of, seen_entries};
 
 use crate::kinds::Kind;
 use fir_ast::{Field, Port, Ty};
 use net_core::{Role, SignalInfo};
 use std::alloc::Global;
 use tb_base::{Memory, Name, put, put_decimal};
+
+/// An instance: the place of its module, the number of its first signal, what stands in front of its
+/// names, and whether it is the main module itself.
+#[derive(Drop)]
+pub(crate) struct Opening {
+    pub(crate) target: usize,
+    pub(crate) first: u32,
+    pub(crate) prefix: Name,
+    pub(crate) top: bool,
+}
+
+/// What is declared: a signal, or an instance with all its signals.
+#[derive(Drop)]
+pub(crate) enum Entry {
+    Made(SignalInfo),
+    Instance(Opening),
+}
 
 /// What the signals of a declared name have in common.
 #[derive(Clone, Copy)]
@@ -50,9 +67,9 @@ fn put_signal(
     flip: bool,
     signed: bool,
     width: Option<u8>,
-    out: &mut Vec<SignalInfo>,
+    out: &mut Vec<Entry>,
 ) -> Result<(), Memory>
-    ensures { OnOk result (out.new.items ≡ out.old.items ++ infos declared name.now flip (ground signed width)) }
+    ensures { OnOk result (seen_entries out.new.items ≡ seen_entries out.old.items ++ signals_of declared name.now flip (ground signed width)) }
 {
     let name = Name::of(Vec::from_slice(alloc, name)?);
     let role = if flip {
@@ -61,13 +78,13 @@ fn put_signal(
         declared.along
     };
     let width = if declared.written { width } else { None };
-    out.push(SignalInfo {
+    out.push(Entry::Made(SignalInfo {
         name,
         role,
         signed,
         width,
         line: declared.line,
-    })?;
+    }))?;
     Ok(())
 }
 
@@ -80,9 +97,9 @@ fn put_signals(
     name: &[u8],
     flip: bool,
     ty: &Ty,
-    out: &mut Vec<SignalInfo>,
+    out: &mut Vec<Entry>,
 ) -> Result<(), Memory>
-    ensures { OnOk result (out.new.items ≡ out.old.items ++ infos declared name.now flip (shape_of ty.now)) }
+    ensures { OnOk result (seen_entries out.new.items ≡ seen_entries out.old.items ++ signals_of declared name.now flip (shape_of ty.now)) }
 {
     match ty {
         Ty::UInt(width) => put_signal(alloc, declared, name, flip, false, *width, out),
@@ -109,9 +126,9 @@ fn put_field_signals(
     name: &[u8],
     flip: bool,
     fields: &[Field],
-    out: &mut Vec<SignalInfo>,
+    out: &mut Vec<Entry>,
 ) -> Result<(), Memory>
-    ensures { OnOk result (out.new.items ≡ out.old.items ++ infos declared name.now flip (fields_shape fields.now)) }
+    ensures { OnOk result (seen_entries out.new.items ≡ seen_entries out.old.items ++ signals_of declared name.now flip (fields_shape fields.now)) }
 {
     for field in fields {
         let own = field_name(alloc, name, field.name.bytes())?;
@@ -125,9 +142,9 @@ fn put_port_signals(
     declared: Declared,
     name: &[u8],
     ports: &[Port],
-    out: &mut Vec<SignalInfo>,
+    out: &mut Vec<Entry>,
 ) -> Result<(), Memory>
-    ensures { OnOk result (out.new.items ≡ out.old.items ++ infos declared name.now false (ports_shape ports.now)) }
+    ensures { OnOk result (seen_entries out.new.items ≡ seen_entries out.old.items ++ signals_of declared name.now false (ports_shape ports.now)) }
 {
     for port in ports {
         let own = field_name(alloc, name, port.name.bytes())?;
@@ -142,9 +159,9 @@ pub(crate) fn put_kind_signals(
     declared: Declared,
     name: &[u8],
     kind: Kind,
-    out: &mut Vec<SignalInfo>,
+    out: &mut Vec<Entry>,
 ) -> Result<(), Memory>
-    ensures { OnOk result (out.new.items ≡ out.old.items ++ infos declared name.now false (kind_shape kind.entry)) }
+    ensures { OnOk result (seen_entries out.new.items ≡ seen_entries out.old.items ++ signals_of declared name.now false (kind_shape kind.entry)) }
 {
     match kind {
         Kind::Of(ty) => put_signals(alloc, declared, name, false, ty, out),
