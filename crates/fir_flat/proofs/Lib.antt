@@ -23,3 +23,4 @@ pub mod StatementFacts
 pub mod PortFacts
 pub mod WritingFacts
 pub mod SignalFacts
+pub mod ListingFacts

@@ -40,10 +40,10 @@ pub on_both : (P Q R : Type 0) (r : Result (Unit {0}) Memory) → (P → Q → R
 on_both P Q R (Ok x) f h g = f h g
 on_both P Q R (Err e) f h g = h
 
-body-Wire : (l : ℕ) (n : List ℕ) (t : Ty) (rest : Body) → statement (stmt.Wire l n t) rest ≡ wire l n (shape_of t) rest
+pub body-Wire : (l : ℕ) (n : List ℕ) (t : Ty) (rest : Body) → statement (stmt.Wire l n t) rest ≡ wire l n (shape_of t) rest
 body-Wire l n t rest = stmt-Wire Body Body level_body l n t rest
 
-body-Reg : (l : ℕ) (n : List ℕ) (t : Ty) (c : Expr) (r : Option ResetPair) (rest : Body) → statement (stmt.Reg l n t c r) rest ≡ reg l n (shape_of t) r rest
+pub body-Reg : (l : ℕ) (n : List ℕ) (t : Ty) (c : Expr) (r : Option ResetPair) (rest : Body) → statement (stmt.Reg l n t c r) rest ≡ reg l n (shape_of t) r rest
 body-Reg l n t c r rest = stmt-Reg Body Body level_body l n t c r rest
 
 -- how many signals a body takes up doesn't depend on their numbers

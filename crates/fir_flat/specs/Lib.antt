@@ -8,6 +8,7 @@ pub mod Statements
 pub mod Ports
 pub mod Writing
 pub mod Signals
+pub mod Listing
 pub mod Kinds
 pub mod Counts
 pub mod Modules

@@ -14,6 +14,7 @@ mod examples;
 mod homes;
 mod kinds;
 mod limits;
+mod listing;
 mod own;
 mod own_body;
 mod partners;
