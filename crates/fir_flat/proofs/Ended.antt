@@ -1,12 +1,11 @@
 -- What the ground parts of an expression are worth, a variant at a time.
-use Rattle.std.proofs.Common.{ℕ, ◌+◌, ◌*◌, Bool, false, Option, List, [], ◌∷◌, map, ◌≡◌, ◌∙◌, sym, ap, slice_index, slice_index_or}
-use Rattle.std.specs.List.{range_with_len}
+use Rattle.std.proofs.Common.{ℕ, Bool, Option, List, map, ◌≡◌, ◌∙◌, sym, ap}
 use Rattle.tb_base.specs.declared.op.Op.{Op}
 use Rattle.fir_flat.specs.declared.worth.Worth.{Worth}
 use Rattle.fir_flat.specs.declared.worth.Worth.TheVariants as worth
 use Rattle.fir_flat.specs.declared.worth.Worth.TheVariants.{rolls-Named, rolls-Behind, rolls-Indexed, rolls-Lit, rolls-Chosen, rolls-Applied}
 use Rattle.fir_flat.specs.declared.worth.Worth.TheFolds.{fold-roll-Worth}
-use Rattle.fir_flat.specs.declared.worth.Worth.TheOpen.{Worth-F, Named, Behind, Indexed, Lit, Chosen, Applied}
+use Rattle.fir_flat.specs.declared.worth.Worth.TheOpen.{Named, Behind, Indexed, Lit, Chosen, Applied}
 use Rattle.fir_flat.specs.Worths.{Ends, level_ends, ends_of}
 
 pub ends-Named : (first : ℕ) → ends_of (worth.Named first) ≡ level_ends (Named first)

@@ -24,3 +24,4 @@ pub mod PortFacts
 pub mod WritingFacts
 pub mod SignalFacts
 pub mod ListingFacts
+pub mod PortEntries

@@ -1,5 +1,5 @@
 -- What one statement declares, in front of any rest.
-use Rattle.std.proofs.Common.{◌≡◌, ◌+◌, ◌∙◌, sym, ap, ap₂, ℕ, Bool, true, false, not, if◌then◌else◌, Option, None, List, [], ◌∷◌, ◌++◌, length, map, take, subst, refl, arith, append_assoc, OnOk, Result}
+use Rattle.std.proofs.Common.{◌≡◌, ◌+◌, ◌∙◌, sym, ap, ap₂, ℕ, Bool, true, false, not, if◌then◌else◌, Option, None, List, [], ◌∷◌, ◌++◌, map, subst, refl, arith, append_assoc, OnOk, Result}
 use Rattle.tb_base.specs.declared.memory.Memory.{Memory}
 use Rattle.fir_flat.specs.declared.kinds.Flow.{Flow}
 use Rattle.fir_flat.specs.declared.signals.Declared.{Declared}
@@ -22,7 +22,7 @@ use Rattle.fir_flat.specs.Values.{Bound, bound, value}
 use Rattle.fir_flat.specs.Modules.{signals_in, place_of, instance}
 use Rattle.fir_flat.specs.Elaboration.{Entry, made, opened, opened_at, entries, leaf_entry, unwritten}
 use Rattle.fir_flat.specs.Kinds.{seen}
-use Rattle.fir_flat.specs.Signals.{entry_of, signals_of, seen_entries}
+use Rattle.fir_flat.specs.Signals.{signals_of, seen_entries}
 use Rattle.fir_flat.specs.Writing.{taken_by}
 use Rattle.fir_flat.specs.Listing.{Declares, Lists, one_role}
 use Rattle.fir_flat.proofs.Unnumbered.{unnumbered, more-alike}

@@ -1,6 +1,6 @@
 -- Ground parts without their names, field by field and element by element.
 use mathlib.Core.Bool.{beq}
-use Rattle.std.proofs.Common.{ℕ, ◌≡◌, ◌+◌, ◌*◌, ◌<◌, ◌∙◌, length, get_or, drop, Bool, true, false, not, List, [], ◌∷◌, ◌++◌, map, refl, sym, ap, arith, append_assoc, add_assoc, add-zero}
+use Rattle.std.proofs.Common.{ℕ, ◌≡◌, ◌+◌, ◌*◌, ◌<◌, ◌∙◌, length, get_or, drop, Bool, true, false, not, List, ◌∷◌, ◌++◌, map, refl, sym, ap, append_assoc, add_assoc}
 use Rattle.std.proofs.Math.Path.{fun_ext}
 use Rattle.std.proofs.lemmas.List.{map-append, drop_more}
 use Rattle.std.specs.List.{range_with_len, flat_map}
@@ -9,7 +9,7 @@ use Rattle.fir_ast.specs.declared.tree.Field.{Field}
 use Rattle.fir_ast.specs.declared.tree.Port.{Port}
 use Rattle.fir_check.specs.Types.{same}
 use Rattle.fir_flat.specs.declared.parts.Part.{Part}
-use Rattle.fir_flat.specs.Shapes.{Shape, shape_of, fields_shape, ports_shape, field, vector, size, element, field_named, Leaf, leaves, in_field, in_element, partners}
+use Rattle.fir_flat.specs.Shapes.{Shape, shape_of, fields_shape, ports_shape, field, size, element, field_named, Leaf, leaves, in_field, in_element, partners}
 use Rattle.fir_flat.specs.Parts.{turned_part, turned_parts, partners_behind}
 use Rattle.fir_flat.proofs.Rolled.{field-parts}
 use Rattle.fir_flat.proofs.Ranges.{map_map, joined_more}

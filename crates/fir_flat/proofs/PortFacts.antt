@@ -1,23 +1,15 @@
 -- Ground parts of ports, one after another.
 use mathlib.Core.Bool.{beq}
-use Rattle.std.proofs.Common.{ℕ, suc, ◌≡◌, ◌+◌, ◌<◌, ◌∙◌, Bool, true, false, not, if◌then◌else◌, List, [], ◌∷◌, ◌++◌, map, length, get_or, take, drop, refl, sym, ap, ap₂, append_assoc, append-nil, add-one, None}
+use Rattle.std.proofs.Common.{◌≡◌, ◌∙◌, Bool, true, false, not, map, refl, ap}
 use Rattle.std.proofs.Math.Path.{fun_ext}
-use Rattle.std.proofs.Math.Seq.{take-suc}
-use Rattle.std.proofs.lemmas.List.{map-append, drop_more}
-use Rattle.std.proofs.lemmas.Grind.{flat_map-append}
-use Rattle.std.specs.List.{flat_map}
 use Rattle.fir_ast.specs.declared.tree.Port.{Port}
-use Rattle.net_core.specs.declared.tree.Ground.{Ground}
 use Rattle.fir_check.specs.Types.{same}
-use Rattle.fir_check.specs.Names.{kept}
 use Rattle.fir_flat.specs.declared.parts.Part.{Part}
-use Rattle.fir_flat.specs.declared.ports.PortLeaf.{PortLeaf as OwnLeaf}
-use Rattle.fir_flat.specs.Shapes.{Shape, shape_of, Leaf, leaves}
+use Rattle.fir_flat.specs.Shapes.{Shape, Leaf, leaves}
 use Rattle.fir_flat.specs.Parts.{turned_part, turned_parts}
-use Rattle.fir_flat.specs.Elaboration.{PortLeaf, port_leaves, declare, declare_ports}
-use Rattle.fir_flat.specs.Ports.{seen_leaf, leaf_of, takes}
+use Rattle.fir_flat.specs.Elaboration.{PortLeaf}
+use Rattle.fir_flat.specs.Ports.{leaf_of}
 use Rattle.fir_flat.proofs.Ranges.{map_map}
-use Rattle.fir_flat.proofs.PartFacts.{written_more}
 
 abbrev pub part_leaf : Port → Part → PortLeaf
 part_leaf p part = record { line = p.line; input = beq p.output part.against }

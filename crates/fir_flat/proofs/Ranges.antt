@@ -1,7 +1,7 @@
 -- Lists made by a loop over numbers, and copies of lists.
 use Rattle.std.proofs.Common.{ℕ, ◌≡◌, ◌+◌, ◌∙◌, ◌≤◌, List, [], ◌∷◌, ◌++◌, length, map, take, refl, sym, ap, ap₂, arith}
 use Rattle.std.specs.List.{range_with_len, flat_map}
-use Rattle.std.proofs.lemmas.List.{append_assoc, append-nil, map-append, map-id, take_all}
+use Rattle.std.proofs.lemmas.List.{append_assoc, append-nil, map-id, take_all}
 use Rattle.std.proofs.lemmas.List.FromFn.{map-range_with_len_more}
 use Rattle.std.proofs.lemmas.Grind.{flat_map-append}
 

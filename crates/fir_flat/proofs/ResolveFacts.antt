@@ -1,5 +1,5 @@
 -- Expressions looked up: the definition's value, a form at a time.
-use Rattle.std.proofs.Common.{ℕ, zero, suc, ◌≡◌, ◌+◌, ◌*◌, ◌<◌, ◌≤◌, ◌∙◌, Bool, true, false, if◌then◌else◌, List, [], ◌∷◌, ◌++◌, map, length, get_or, take, refl, sym, ap, ap₂, arith, subst, slice_index, slice_index_or, Option, Some, None, add-one}
+use Rattle.std.proofs.Common.{ℕ, zero, suc, ◌≡◌, ◌+◌, ◌*◌, ◌<◌, ◌∙◌, Bool, false, List, [], ◌∷◌, ◌++◌, map, length, get_or, take, refl, sym, ap, ap₂, arith, slice_index, slice_index_or, None, add-one}
 use Rattle.std.proofs.Math.Path.{fun_ext}
 use Rattle.std.proofs.Math.Seq.{take-suc}
 use Rattle.std.proofs.lemmas.List.{map-append, length-map}
@@ -18,11 +18,11 @@ use Rattle.fir_flat.specs.declared.worth.Worth.{Worth}
 use Rattle.fir_flat.specs.declared.worth.Worth.TheVariants as worth
 use Rattle.fir_flat.specs.declared.resolve.Operands.{Operands}
 use Rattle.fir_flat.specs.Shapes.{Shape, Leaf, leaves, whole, size, element, elements, partners, is_signed}
-use Rattle.fir_flat.specs.Values.{Value, operand, inside, indexed, chosen, computed, number, selected, leaf_signed, applied}
+use Rattle.fir_flat.specs.Values.{Value, operand, indexed, chosen, computed, selected, leaf_signed, applied}
 use Rattle.fir_flat.specs.Worths.{Ends, ends, ends_of}
 use Rattle.fir_flat.specs.Parts.{turned_part, turned_parts}
 use Rattle.fir_flat.specs.Resolving.{shown, Given, SignsElements, plain_value}
-use Rattle.fir_flat.proofs.Ended.{ends-Behind, ends-Indexed, ends-Chosen, ends-Applied}
+use Rattle.fir_flat.proofs.Ended.{ends-Indexed, ends-Chosen, ends-Applied}
 
 -- computed indices
 

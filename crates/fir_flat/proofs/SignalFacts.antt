@@ -1,8 +1,8 @@
 -- Signals of a type, field by field and element by element.
 use mathlib.Core.Bool.{beq}
-use Rattle.std.proofs.Common.{ℕ, ◌≡◌, ◌+◌, ◌<◌, ◌∙◌, Bool, true, false, not, if◌then◌else◌, List, [], ◌∷◌, ◌++◌, map, length, get_or, drop, codes, decimal, refl, sym, ap, ap₂, append_assoc, None}
+use Rattle.std.proofs.Common.{ℕ, ◌≡◌, ◌+◌, ◌<◌, ◌∙◌, Bool, false, not, if◌then◌else◌, List, ◌++◌, map, length, get_or, drop, codes, decimal, sym, ap, ap₂, append_assoc, None}
 use Rattle.std.proofs.Math.Path.{fun_ext}
-use Rattle.std.proofs.lemmas.List.{map-append, drop_more}
+use Rattle.std.proofs.lemmas.List.{map-append}
 use Rattle.std.specs.List.{range_with_len, flat_map}
 use Rattle.fir_ast.specs.declared.tree.Ty.TheViews.{out-Field}
 use Rattle.fir_ast.specs.declared.tree.Field.{Field}

@@ -1,14 +1,12 @@
 -- Statements written one ground part after another.
-use Rattle.std.proofs.Common.{ℕ, zero, suc, ◌≡◌, ◌+◌, ◌<◌, ◌≤◌, ◌∙◌, Bool, true, false, not, if◌then◌else◌, List, [], ◌∷◌, ◌++◌, map, length, get_or, drop, refl, sym, ap, ap₂, arith, append_assoc, slice_index, Some, None, add-one}
-use Rattle.std.proofs.lemmas.Grind.{common_steps}
+use Rattle.std.proofs.Common.{ℕ, zero, suc, ◌≡◌, ◌+◌, ◌<◌, ◌≤◌, ◌∙◌, Bool, true, false, not, List, [], ◌∷◌, ◌++◌, map, length, get_or, drop, refl, sym, ap, ap₂, arith, append_assoc, slice_index, Some, None, add-one}
 use Rattle.std.proofs.lemmas.List.{drop_more, drop_all, append-nil, length-map}
 use Rattle.std.proofs.lemmas.List.FromFn.{map-range_with_len_more}
-use Rattle.std.specs.List.{range_with_len, flat_map}
 use Rattle.net_core.specs.declared.tree.Ground.{Ground}
 use Rattle.net_core.specs.declared.tree.Ground.TheVariants as out
 use Rattle.fir_check.specs.Types.{same}
 use Rattle.fir_flat.specs.declared.parts.Part.{Part}
-use Rattle.fir_flat.specs.Shapes.{Shape, Leaf, leaves, size, partners}
+use Rattle.fir_flat.specs.Shapes.{Shape, Leaf, leaves, partners}
 use Rattle.fir_flat.specs.Values.{Value, signal}
 use Rattle.fir_flat.specs.Parts.{turned_part, turned_parts}
 use Rattle.fir_flat.specs.Elaboration.{declare, declare_all, node_part, connect_part, connect_parts, invalid_parts}

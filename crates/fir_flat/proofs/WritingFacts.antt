@@ -1,8 +1,8 @@
 -- One statement written, in front of any rest.
 use Rattle.std.proofs.lemmas.List.{map-append, take_at}
-use Rattle.std.proofs.Common.{Bool, true, false, ◌≡◌, ◌+◌, ◌∙◌, sym, ap, ap₂, ℕ, Option, Some, None, List, [], ◌∷◌, ◌++◌, length, map, take, subst, refl, arith, append_assoc, option_map, OnOk, Result, Ok, Err, slice_index}
+use Rattle.std.proofs.Common.{Bool, true, false, ◌≡◌, ◌+◌, ◌∙◌, sym, ap, ap₂, ℕ, Option, List, [], ◌∷◌, ◌++◌, length, map, take, subst, refl, arith, append_assoc, OnOk, Result, Ok, Err}
 use Rattle.std.proofs.Math.Path.{fun_ext}
-use Rattle.std.specs.List.{range_with_len, flat_map}
+use Rattle.std.specs.List.{range_with_len}
 use Rattle.tb_base.specs.declared.memory.Memory.{Memory}
 use Rattle.fir_ast.specs.declared.tree.Expr.{Expr}
 use Rattle.fir_ast.specs.declared.tree.Ty.{Ty}
@@ -12,7 +12,6 @@ use Rattle.fir_ast.specs.declared.tree.Port.{Port}
 use Rattle.fir_ast.specs.declared.tree.Stmt.{Stmt}
 use Rattle.fir_ast.specs.declared.tree.Stmt.TheVariants as stmt
 use Rattle.net_core.specs.declared.tree.GroundExpr.{GroundExpr}
-use Rattle.net_core.specs.declared.tree.GroundReset.{GroundReset}
 use Rattle.net_core.specs.declared.tree.Ground.{Ground}
 use Rattle.net_core.specs.declared.tree.Ground.TheVariants as out
 use Rattle.fir_check.proofs.Unrolled.{stmt-Wire, stmt-Reg}
@@ -22,11 +21,11 @@ use Rattle.fir_flat.specs.declared.statements.Reset.{Reset}
 use Rattle.fir_flat.specs.declared.writing.Written.{Written}
 use Rattle.fir_flat.specs.Shapes.{Shape, shape_of, ports_shape, size}
 use Rattle.fir_flat.specs.Bodies.{Body, done, wire, node, reg, inst, connect, invalid, when, level_body, statement, body_of}
-use Rattle.fir_flat.specs.Values.{Bound, bound, Value, value}
+use Rattle.fir_flat.specs.Values.{Bound, bound, value}
 use Rattle.fir_flat.specs.Modules.{module_at, ports_known, taken_up, signals_in, place_of, instance}
-use Rattle.fir_flat.specs.Elaboration.{grounds, declare, reg_part, ground_reset, declare_ports, declared_inside, port_leaves}
+use Rattle.fir_flat.specs.Elaboration.{grounds, declare, reg_part, declare_ports, declared_inside, port_leaves}
 use Rattle.fir_flat.specs.Kinds.{bound_of, seen}
-use Rattle.fir_flat.specs.Statements.{reset_of, reg_ground, connect_grounds, invalid_grounds}
+use Rattle.fir_flat.specs.Statements.{reg_ground, connect_grounds, invalid_grounds}
 use Rattle.fir_flat.specs.Ports.{takes}
 use Rattle.fir_flat.specs.Writing.{taken_by, Adds, AddsWire, AddsNode, AddsRegister, AddsInstance, Puts, IsReset, Writes, WritesBlock, own_grounds}
 use Rattle.fir_flat.proofs.Unnumbered.{unnumbered, Alike, type-alike, more-alike}

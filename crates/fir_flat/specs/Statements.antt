@@ -1,5 +1,5 @@
 -- What contracts see of the statements that are written.
-use Rattle.std.specs.Prelude.{ℕ, ◌+◌, Bool, if◌then◌else◌, Option, None, List, [], map, flat_map, option_map, slice_index}
+use Rattle.std.specs.Prelude.{ℕ, ◌+◌, Bool, if◌then◌else◌, Option, None, List, [], flat_map, option_map, slice_index}
 use Rattle.std.specs.List.{range_with_len}
 use Rattle.net_core.specs.declared.tree.GroundReset.{GroundReset}
 use Rattle.net_core.specs.declared.tree.Ground.{Ground}

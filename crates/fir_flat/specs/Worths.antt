@@ -1,5 +1,5 @@
 -- What the code knows of an expression whose names are looked up.
-use Rattle.std.specs.Prelude.{ℕ, ◌+◌, ◌*◌, Bool, false, Option, List, [], ◌∷◌, map, slice_index, slice_index_or}
+use Rattle.std.specs.Prelude.{ℕ, ◌+◌, ◌*◌, false, Option, List, [], ◌∷◌, map, slice_index, slice_index_or}
 use Rattle.std.specs.List.{range_with_len}
 use Rattle.tb_base.specs.declared.op.Op.TheVariants.{Mux}
 use Rattle.net_core.specs.declared.tree.GroundExpr.{GroundExpr}
@@ -9,8 +9,6 @@ use Rattle.net_core.specs.declared.tree.Ground.TheVariants as out
 use Rattle.fir_flat.specs.declared.worth.Worth.{Worth}
 use Rattle.fir_flat.specs.declared.worth.Worth.TheFolds.{fold-Worth}
 use Rattle.fir_flat.specs.declared.worth.Worth.TheOpen.{Worth-F, Named, Behind, Indexed, Lit, Chosen, Applied}
-use Rattle.fir_flat.specs.declared.kinds.Flow.{Flow}
-use Rattle.fir_flat.specs.Shapes.{Shape}
 use Rattle.fir_flat.specs.Values.{Value, signal, selected}
 
 -- the ground parts of an expression: what each is worth, and the statements that drive it

@@ -6,7 +6,10 @@
 //! `elab`, with its counts. `Measures` and `Limits` have the counts without building anything, and
 //! `the_counts_are_exact` says that both agree.
 //!
-//! What the code does so far is to judge the three limits by those counts.
+//! The code judges the three limits by those counts, and has the elaboration's parts up to one
+//! instance: `parts` and `partners` are ground parts of types, `resolve` and `worth` expressions,
+//! `statements` and `writing` the statements of a body, `signals` and `listing` what it declares,
+//! `own_body` and `own_entries` those of an instance itself. Each is the definition's own, exactly.
 #![tactic(auto)]
 
 mod counts;
@@ -17,6 +20,7 @@ mod limits;
 mod listing;
 mod own;
 mod own_body;
+mod own_entries;
 mod partners;
 mod parts;
 mod ports;

@@ -30,7 +30,7 @@ pub(crate) struct Listed {
 }
 
 /// A name behind a prefix.
-fn full_name(alloc: Global, prefix: &[u8], name: &[u8]) -> Result<Vec<u8>, Memory>
+pub(crate) fn full_name(alloc: Global, prefix: &[u8], name: &[u8]) -> Result<Vec<u8>, Memory>
     ensures { IfOk result (λ n. n.items ≡ prefix.now ++ name.now) }
 {
     let mut full = Vec::from_slice(alloc, prefix)?;

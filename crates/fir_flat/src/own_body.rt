@@ -19,12 +19,16 @@ use tb_base::Memory;
 
 /// The names of a module's ports, and the number of the first signal behind them.
 #[derive(Drop)]
-struct PortNames<'a> {
-    known: Vec<Known<'a>>,
-    next: u32,
+pub(crate) struct PortNames<'a> {
+    pub(crate) known: Vec<Known<'a>>,
+    pub(crate) next: u32,
 }
 
-fn name_ports<'a>(alloc: Global, ports: &'a [Port], first: u32) -> Result<PortNames<'a>, Memory>
+pub(crate) fn name_ports<'a>(
+    alloc: Global,
+    ports: &'a [Port],
+    first: u32,
+) -> Result<PortNames<'a>, Memory>
     ensures known { IfOk result (λ names. seen names.known.items ≡ ports_known first ports.now) }
     ensures next { IfOk result (λ names. names.next ≡ first + size (ports_shape ports.now)) }
 {
@@ -48,7 +52,7 @@ fn name_ports<'a>(alloc: Global, ports: &'a [Port], first: u32) -> Result<PortNa
 }
 
 /// The statements of the module at a place; none past the last.
-fn body_at(modules: &[Module], place: usize) -> &[Stmt]
+pub(crate) fn body_at(modules: &[Module], place: usize) -> &[Stmt]
     ensures { result.now ≡ (module_at modules.now place).body }
 {
     if place < modules.len() {

@@ -1,8 +1,7 @@
-use Rattle.std.proofs.Common.{ℕ, List, ◌≡◌, ◌+◌, ◌*◌, ◌++◌, ◌∙◌, ap, ap₂, sym, subst, IfOk}
+use Rattle.std.proofs.Common.{ℕ, List, ◌≡◌, ◌+◌, ◌*◌, ◌++◌, ◌∙◌, ap, ap₂, subst, IfOk}
 use Rattle.fir_ast.specs.declared.tree.Ty.{Ty}
 use Rattle.fir_ast.specs.declared.tree.Ty.TheViews.{out-Field}
-use Rattle.fir_flat.specs.Counts.{cut}
-use Rattle.fir_flat.specs.Shapes.{Shape, shape_of, size, element, field_named}
+use Rattle.fir_flat.specs.Shapes.{Shape, shape_of, size, field_named}
 use Rattle.fir_flat.specs.Kinds.{kind_shape}
 use Rattle.fir_flat.specs.Parts.{partners_behind}
 use Rattle.fir_flat.proofs.PartFacts.{field_partners_more, partner_more}

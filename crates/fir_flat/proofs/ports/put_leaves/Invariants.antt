@@ -1,5 +1,4 @@
 use Rattle.std.proofs.Common.{◌≡◌, ◌++◌, map, take}
-use Rattle.fir_flat.specs.declared.parts.Part.{Part}
 use Rattle.fir_flat.specs.Ports.{seen_leaf}
 use Rattle.fir_flat.proofs.PortFacts.{part_leaf}
 use Rattle.fir_flat.proofs.ports.put_leaves.Given as goal

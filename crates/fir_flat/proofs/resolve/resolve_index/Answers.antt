@@ -1,5 +1,5 @@
-use Rattle.std.proofs.Common.{◌≡◌, ap, ap₂, ◌∙◌, refl, sym, subst, IfOk, List, Bool}
-use Rattle.fir_flat.specs.Shapes.{Shape, size, element}
+use Rattle.std.proofs.Common.{◌≡◌, ap, ◌∙◌, refl, sym, subst, IfOk, List, Bool}
+use Rattle.fir_flat.specs.Shapes.{Shape, size}
 use Rattle.fir_flat.specs.Kinds.{kind_shape}
 use Rattle.fir_flat.specs.Worths.{ends_of}
 use Rattle.fir_flat.specs.Resolving.{resolved, SignsElements}

@@ -1,4 +1,4 @@
-use Rattle.std.proofs.Common.{ℕ, ap, ◌≡◌, ◌∙◌, ◌++◌, ◌+◌, ◌<◌, sym, subst, drop, length, slice_index, get_or, List, rules, arith}
+use Rattle.std.proofs.Common.{ℕ, ap, ◌≡◌, ◌∙◌, ◌++◌, ◌<◌, sym, subst, drop, length, slice_index, List, rules}
 use Rattle.fir_flat.specs.Shapes.{leaves}
 use Rattle.fir_flat.specs.Elaboration.{connect_part, connect_parts}
 use Rattle.fir_flat.specs.Resolving.{resolved}

@@ -1,4 +1,4 @@
-use Rattle.std.proofs.Common.{◌≡◌, ◌≤◌, ◌++◌, ◌-◌, length, drop}
+use Rattle.std.proofs.Common.{◌≡◌, ◌++◌, ◌-◌, length, drop}
 use Rattle.fir_flat.specs.Shapes.{leaves}
 use Rattle.fir_flat.specs.Elaboration.{connect_parts}
 use Rattle.fir_flat.specs.Resolving.{resolved}

@@ -1,4 +1,4 @@
-use Rattle.std.proofs.Common.{ℕ, ap, ◌≡◌, ◌∙◌, ◌++◌, ◌+◌, ◌<◌, sym, subst, drop, length, get_or, List, rules, arith}
+use Rattle.std.proofs.Common.{◌≡◌, ◌++◌, ◌<◌, sym, subst, drop, length, rules}
 use Rattle.fir_flat.specs.Shapes.{leaves}
 use Rattle.fir_flat.specs.Elaboration.{invalid_parts}
 use Rattle.fir_flat.specs.Resolving.{resolved}

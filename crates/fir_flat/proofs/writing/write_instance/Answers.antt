@@ -1,4 +1,4 @@
-use Rattle.std.proofs.Common.{ℕ, List, Bool, ◌≡◌, ◌∙◌, ◌+◌, ◌++◌, ◌∷◌, [], ap, subst, IfOk}
+use Rattle.std.proofs.Common.{List, Bool, ◌≡◌, ◌∙◌, ◌+◌, ◌++◌, ◌∷◌, [], ap, subst, IfOk}
 use Rattle.fir_ast.specs.declared.tree.Port.{Port}
 use Rattle.fir_flat.specs.declared.kinds.Flow.TheVariants.{Source}
 use Rattle.fir_flat.specs.Shapes.{ports_shape}

@@ -1,4 +1,4 @@
-use Rattle.std.proofs.Common.{ℕ, ◌≡◌, ◌∙◌, ◌++◌, ap, ap₂, List, []}
+use Rattle.std.proofs.Common.{ℕ, ◌∙◌, ◌++◌, ap, ap₂, List, []}
 use Rattle.net_core.specs.declared.tree.GroundExpr.TheVariants as to
 use Rattle.net_core.specs.declared.tree.GroundExpr.{GroundExpr}
 use Rattle.net_core.specs.declared.tree.Ground.{Ground}

@@ -1,5 +1,4 @@
-use Rattle.std.proofs.Common.{ℕ, ◌≡◌, ◌∙◌, ◌≤◌, sym, ap, ap₂, subst, map, length, IfOk, arith, List, ◌∷◌, []}
-use Rattle.net_core.specs.declared.tree.GroundExpr.{GroundExpr}
+use Rattle.std.proofs.Common.{ℕ, ◌≡◌, ◌∙◌, sym, ap, ap₂, subst, map, IfOk, arith}
 use Rattle.net_core.specs.declared.tree.GroundExpr.TheVariants as to
 use Rattle.fir_flat.specs.declared.worth.Worth.{Worth}
 use Rattle.fir_flat.specs.Worths.{Ends, ends_of}
