@@ -14,10 +14,10 @@ use Rattle.fir_flat.specs.Measures.{Measure, level_measure, measure, measure_at,
 abbrev pub Agrees : List Bound → Expr → Type 0
 Agrees known e = (value known e).ty ≡ (measure known e).ty
 
-value_roll : (known : List Bound) (x : Expr-F Expr) → value known (roll-Expr x) ≡ level_value known (map-Expr Expr Value (value known) x)
+pub value_roll : (known : List Bound) (x : Expr-F Expr) → value known (roll-Expr x) ≡ level_value known (map-Expr Expr Value (value known) x)
 value_roll known = fold-roll-Expr Value (level_value known)
 
-measure_roll : (known : List Bound) (x : Expr-F Expr) → measure known (roll-Expr x) ≡ level_measure known (map-Expr Expr Measure (measure known) x)
+pub measure_roll : (known : List Bound) (x : Expr-F Expr) → measure known (roll-Expr x) ≡ level_measure known (map-Expr Expr Measure (measure known) x)
 measure_roll known = fold-roll-Expr Measure (level_measure known)
 
 -- an expression that has the property: what a level holds

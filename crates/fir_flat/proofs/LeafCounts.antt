@@ -1,8 +1,8 @@
 -- A type has as many ground parts as its size says, and each has a counterpart.
-use Rattle.std.proofs.Common.{ℕ, zero, suc, ◌≡◌, ◌+◌, ◌*◌, ◌∙◌, List, [], ◌∷◌, ◌++◌, length, map, refl, ap, arith, length-append}
+use Rattle.std.proofs.Common.{ℕ, zero, suc, ◌≡◌, ◌+◌, ◌*◌, ◌∙◌, List, ◌++◌, length, map, refl, arith, length-append}
 use Rattle.std.proofs.lemmas.List.{length-map}
 use Rattle.std.specs.List.{range_with_len, flat_map}
-use Rattle.fir_flat.specs.Shapes.{Shape, ground, clock, empty, field, vector, size, Leaf, leaves, in_field, in_element, field_named, element, partners, LeavesCounted}
+use Rattle.fir_flat.specs.Shapes.{Shape, ground, clock, empty, field, vector, size, leaves, in_field, in_element, field_named, element, partners, LeavesCounted}
 
 -- n lists of s items each
 copies : {A : Type 0} (g : ℕ → List A) (s : ℕ) → ((k : ℕ) → length (g k) ≡ s) → (n a : ℕ) → length (flat_map g (range_with_len a n)) ≡ n * s

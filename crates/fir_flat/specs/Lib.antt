@@ -1,6 +1,14 @@
 pub mod Shapes
 pub mod Bodies
 pub mod Values
+pub mod Worths
+pub mod Parts
+pub mod Resolving
+pub mod Statements
+pub mod Ports
+pub mod Writing
+pub mod Signals
+pub mod Listing
 pub mod Kinds
 pub mod Counts
 pub mod Modules

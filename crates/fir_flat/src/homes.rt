@@ -3,7 +3,8 @@
 //! The counts begin at 0. A sweep raises each to what the counts of its instances' modules give; once
 //! a sweep raises none, they are right. No count goes beyond one past the greatest limit.
 ghost use Rattle.std.specs.Prelude.{◌≡◌, ◌≤◌, ◌<◌, ℕ, length, slice_index, IfOk, true, false, vec_len};
-ghost use Rattle.fir_flat.specs.Modules.{own_signals};
+ghost use Rattle.fir_flat.specs.Modules.{own_signals, targets_of, Ranked};
+ghost use Rattle.fir_flat.specs.Writing.{CountsSignals};
 ghost use Rattle.fir_flat.specs.Measures.{own_weight};
 ghost use Rattle.fir_flat.specs.Counts.{cut};
 ghost use Rattle.fir_flat.specs.Homes.{next_count, next_at, room, Lower, recounted, rises, count, IsRanked, AreHomes};
@@ -89,7 +90,7 @@ fn sweep(homes: &[Home], counts: &mut [u64]) -> bool
 /// The count of each module, cut at one past the limit.
 pub(crate) fn capped_counts(alloc: Global, homes: &[Home]) -> Result<Vec<u64>, Memory>
     requires { (rank : ℕ → ℕ) × IsRanked rank homes.now }
-    ensures { IfOk result (λ counts. (k : ℕ) → k < length homes.now → slice_index counts.items k ≡ cut (count homes.now k)) }
+    ensures { IfOk result (λ counts. (k : ℕ) → slice_index counts.items k ≡ cut (count homes.now k)) }
 {
     let mut counts = zeros(alloc, homes.len())?;
     loop {
@@ -137,4 +138,15 @@ pub(crate) fn part_homes(alloc: Global, modules: &[Module]) -> Result<Vec<Home>,
         })?;
     }
     Ok(homes)
+}
+
+/// For each module the signals of an instance of it. The time is linear in the size of the modules'
+/// text, but for the look-ups of names and the sweeps over the modules.
+pub(crate) fn signal_counts(alloc: Global, modules: &[Module]) -> Result<Vec<u64>, Memory>
+    requires { (rank : ℕ → ℕ) × Ranked rank (targets_of modules.now) (length modules.now) }
+    ensures { IfOk result (λ counts. CountsSignals modules.now counts.items) }
+{
+    let homes = signal_homes(alloc, modules)?;
+    let counts = capped_counts(alloc, &homes)?;
+    Ok(counts)
 }

@@ -3,9 +3,13 @@
 //! `specs/` has the definition. `Shapes` has types as plain data and their ground parts, `Bodies` a
 //! module's statements as plain data, `Values` what the ground parts of expressions are worth and how
 //! they are driven, `Modules` the recursion over instances, and `Elaboration` the elaboration itself,
-//! `elab`, with its counts. `Measures` and `Limits` have the counts without building anything.
+//! `elab`, with its counts. `Measures` and `Limits` have the counts without building anything, and
+//! `the_counts_are_exact` says that both agree.
 //!
-//! What the code does so far is to judge the three limits by those counts.
+//! The code judges the three limits by those counts, and has the elaboration's parts up to one
+//! instance: `parts` and `partners` are ground parts of types, `resolve` and `worth` expressions,
+//! `statements` and `writing` the statements of a body, `signals` and `listing` what it declares,
+//! `own_body` and `own_entries` those of an instance itself. Each is the definition's own, exactly.
 #![tactic(auto)]
 
 mod counts;
@@ -13,12 +17,23 @@ mod examples;
 mod homes;
 mod kinds;
 mod limits;
+mod listing;
 mod own;
+mod own_body;
+mod own_entries;
+mod partners;
+mod parts;
+mod ports;
+mod resolve;
+mod signals;
 mod sizes;
+mod statements;
 mod weights;
+mod worth;
+mod writing;
 
 pub use examples::{
     the_adder_works_out, the_bundles_work_out, the_indices_work_out, the_instances_work_out,
     the_leaves_work_out, the_queue_works_out, the_sizes_count_leaves,
 };
-pub use limits::{FlatFault, check_limits};
+pub use limits::{FlatFault, check_limits, the_counts_are_exact};

@@ -4,7 +4,8 @@ ghost use Rattle.fir_flat.specs.Counts.{cut};
 ghost use Rattle.fir_flat.specs.Modules.{place_of, targets_of, signals_in, Ranked};
 ghost use Rattle.fir_flat.specs.Measures.{weight_in};
 ghost use Rattle.fir_flat.specs.Homes.{count, IsRanked as AreRanked};
-ghost use Rattle.fir_flat.specs.Limits.{IsRanked, Fits, Passes};
+ghost use Rattle.fir_flat.specs.Limits.{IsRanked, Fits, Passes, CountsElaboration};
+ghost use Rattle.fir_flat.specs.Elaboration.{signals, parts};
 
 use crate::homes::{Home, capped_counts, count_at, part_homes, signal_homes};
 use crate::own::{place_of, ports_at};
@@ -74,6 +75,36 @@ fn parts_of(alloc: Global, modules: &[Module], place: usize) -> Result<u64, Memo
     Ok(parts)
 }
 
+/// A law: the signals and parts that are counted are those of the elaboration.
+pub fn the_counts_are_exact(circuit: &Circuit)
+    requires { (rank : ℕ → ℕ) × IsRanked rank circuit.now }
+    ensures { CountsElaboration circuit.now }
+{}
+
+/// The signals of the elaboration.
+fn count_signals(alloc: Global, circuit: &Circuit) -> Result<u64, Memory>
+    requires ranked { (rank : ℕ → ℕ) × IsRanked rank circuit.now }
+    requires main { place_of circuit.now.modules circuit.now.name < length circuit.now.modules }
+    ensures { IfOk result (λ n. n ≡ cut (signals circuit.now)) }
+{
+    let modules = circuit.modules.items();
+    let place = place_of(modules, circuit.name.bytes());
+    let signals = signals_of(alloc, modules, place)?;
+    Ok(signals)
+}
+
+/// The parts of the elaboration.
+fn count_parts(alloc: Global, circuit: &Circuit) -> Result<u64, Memory>
+    requires ranked { (rank : ℕ → ℕ) × IsRanked rank circuit.now }
+    requires main { place_of circuit.now.modules circuit.now.name < length circuit.now.modules }
+    ensures { IfOk result (λ n. n ≡ cut (parts circuit.now)) }
+{
+    let modules = circuit.modules.items();
+    let place = place_of(modules, circuit.name.bytes());
+    let parts = parts_of(alloc, modules, place)?;
+    Ok(parts)
+}
+
 /// Whether the elaboration of the circuit stays within the limits: `Err` has the first of them that
 /// it passes, in the order of the variants. Each module is counted once, however many instances
 /// there are of it, and nothing is built. No module may contain itself, and the main module is there.
@@ -88,10 +119,10 @@ pub fn check_limits(alloc: Global, circuit: &Circuit) -> Result<(), FlatFault>
     if size_of_ports(ports_at(modules, place)) > 256 {
         return Err(FlatFault::TooManyPorts);
     }
-    if signals_of(alloc, modules, place)? > 65_536 {
+    if count_signals(alloc, circuit)? > 65_536 {
         return Err(FlatFault::TooManySignals);
     }
-    if parts_of(alloc, modules, place)? > 4_194_304 {
+    if count_parts(alloc, circuit)? > 4_194_304 {
         return Err(FlatFault::TooManyParts);
     }
     Ok(())

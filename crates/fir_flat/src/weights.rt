@@ -206,7 +206,7 @@ fn weigh_apply<'a>(op: Op, operands: Operands<'a>) -> Weight<'a>
 }
 
 /// Whether the row's result has a sign, where the first operand has this one.
-fn has_sign(op: Op, first: bool) -> bool
+pub(crate) fn has_sign(op: Op, first: bool) -> bool
     ensures { result ≡ row_signed op first }
 {
     match op {

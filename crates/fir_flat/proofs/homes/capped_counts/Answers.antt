@@ -6,7 +6,7 @@ use Rattle.fir_flat.proofs.Cuts.{stable_counts}
 use Rattle.fir_flat.proofs.homes.capped_counts.Goals as goal
 
 pub returns-then-not-sweep : goal.returns-then-not-sweep
-returns-then-not-sweep c k h =
+returns-then-not-sweep c k =
     let s : get_or c.sweep.new.counts k 0 ≡ cut (count c.args.homes.now k)
     = stable_counts c.requires.0 _ _ c.requires.1 c.sweep.ensures.lower (c.sweep.ensures.met cc) k in
     let n : length c.sweep.new.counts ≡ c.loop-counts.counts.len = search rules in

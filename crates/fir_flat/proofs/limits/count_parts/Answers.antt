@@ -1,0 +1,14 @@
+use Rattle.std.proofs.Common.{List, ℕ, ◌∙◌, ap, ap₂}
+use Rattle.fir_ast.specs.declared.tree.Module.{Module}
+use Rattle.fir_flat.specs.Counts.{cut}
+use Rattle.fir_flat.specs.Modules.{place_of}
+use Rattle.fir_flat.specs.Measures.{weight_in}
+use Rattle.fir_flat.proofs.TreeCounts.{parts_counted}
+use Rattle.fir_flat.proofs.limits.count_parts.Goals as goal
+
+pub returns : goal.returns
+returns c =
+    c.in_ok-parts.ensures
+    ∙ ap₂ (λ (ms : List Module) (place : ℕ). cut (weight_in ms place)) c.items-modules.ensures
+    (c.place_of-place.ensures ∙ ap₂ (λ (ms : List Module) (name : List ℕ). place_of ms name) c.items-modules.ensures c.bytes.ensures)
+    ∙ ap cut (parts_counted c.requires.ranked.0 c.args.circuit.now c.requires.ranked.1)

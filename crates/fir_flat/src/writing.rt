@@ -1,0 +1,307 @@
+//! The statements of a body, and the numbers of its signals.
+ghost use Rattle.std.specs.Prelude.{◌≡◌, ◌++◌, ◌∷◌, [], IfOk, OnOk};
+ghost use Rattle.net_core.specs.declared.tree.Ground.TheVariants as out;
+ghost use Rattle.fir_flat.specs.Shapes.{shape_of};
+ghost use Rattle.fir_flat.specs.Bodies.{statement, body_of};
+ghost use Rattle.fir_flat.specs.Values.{value};
+ghost use Rattle.fir_flat.specs.Kinds.{seen};
+ghost use Rattle.fir_flat.specs.Statements.{connect_grounds, invalid_grounds};
+ghost use Rattle.fir_flat.specs.Writing.{CountsSignals, AddsWire, AddsNode, AddsRegister, AddsInstance, Puts, IsReset, Writes, WritesBlock};
+
+use crate::counts::exact;
+use crate::homes::count_at;
+use crate::kinds::{Flow, Kind, Known};
+use crate::own::{place_of, ports_at};
+use crate::partners::partners_of;
+use crate::ports::put_ports;
+use crate::resolve::resolve;
+use crate::sizes::size_of;
+use crate::statements::{
+    Reset, put_connect, put_declarations, put_invalid, put_node, put_register,
+};
+use crate::worth::plus;
+use fir_ast::{Expr, Module, ResetPair, Stmt, Ty};
+use net_core::{Ground, GroundExpr};
+use sqlite_items::Items;
+use std::alloc::Global;
+use tb_base::Memory;
+
+/// What is written of a body so far, and the number of the next signal.
+#[derive(Drop)]
+pub(crate) struct Written {
+    pub(crate) next: u32,
+    pub(crate) body: Vec<Ground>,
+}
+
+fn write_wire<'a>(
+    line: u32,
+    name: &'a [u8],
+    ty: &'a Ty,
+    known: &mut Vec<Known<'a>>,
+    written: &mut Written,
+) -> Result<(), Memory>
+    ensures { OnOk result (AddsWire line name.now (shape_of ty.now) known.old.items known.new.items written.old written.new) }
+{
+    let size = exact(size_of(ty))?;
+    let first = written.next;
+    put_declarations(line, first, size, &mut written.body)?;
+    written.next = plus(first, size)?;
+    known.push(Known {
+        name,
+        kind: Kind::Of(ty),
+        flow: Flow::Free,
+        first,
+    })?;
+    Ok(())
+}
+
+fn write_node<'a>(
+    alloc: Global,
+    line: u32,
+    name: &'a [u8],
+    expr: &Expr,
+    known: &mut Vec<Known<'a>>,
+    written: &mut Written,
+) -> Result<(), Memory>
+    ensures { OnOk result (AddsNode line name.now (value (seen known.old.items) expr.now) known.old.items known.new.items written.old written.new) }
+{
+    let value = resolve(alloc, known, expr)?;
+    let size = exact(value.kind.size())?;
+    let first = written.next;
+    put_node(alloc, line, first, &value, size, &mut written.body)?;
+    written.next = plus(first, size)?;
+    known.push(Known {
+        name,
+        kind: value.kind,
+        flow: Flow::Fixed,
+        first,
+    })?;
+    Ok(())
+}
+
+/// The reset of a register of a type, looked up.
+fn resolve_reset<'a>(
+    alloc: Global,
+    known: &[Known<'a>],
+    ty: &'a Ty,
+    reset: &Option<ResetPair>,
+) -> Result<Option<Reset<'a>>, Memory>
+    ensures { IfOk result (λ r. IsReset (seen known.now) (shape_of ty.now) reset.now r) }
+{
+    match reset {
+        None => Ok(None),
+        Some(pair) => {
+            let signal = resolve(alloc, known, &pair.signal)?;
+            let init = resolve(alloc, known, &pair.init)?;
+            let partners = partners_of(alloc, Kind::Of(ty), init.kind)?;
+            Ok(Some(Reset {
+                signal,
+                init,
+                partners,
+            }))
+        }
+    }
+}
+
+fn write_register<'a>(
+    alloc: Global,
+    line: u32,
+    name: &'a [u8],
+    ty: &'a Ty,
+    reset: &Option<ResetPair>,
+    known: &mut Vec<Known<'a>>,
+    written: &mut Written,
+) -> Result<(), Memory>
+    ensures { OnOk result (AddsRegister line name.now (shape_of ty.now) reset.now known.old.items known.new.items written.old written.new) }
+{
+    let size = exact(size_of(ty))?;
+    let first = written.next;
+    known.push(Known {
+        name,
+        kind: Kind::Of(ty),
+        flow: Flow::Free,
+        first,
+    })?;
+    let reset = resolve_reset(alloc, known, ty, reset)?;
+    put_register(alloc, line, first, &reset, size, &mut written.body)?;
+    written.next = plus(first, size)?;
+    Ok(())
+}
+
+fn write_instance<'a>(
+    alloc: Global,
+    modules: &'a [Module],
+    counts: &[u64],
+    name: &'a [u8],
+    target: &[u8],
+    known: &mut Vec<Known<'a>>,
+    written: &mut Written,
+) -> Result<(), Memory>
+    requires { CountsSignals modules.now counts.now }
+    ensures { OnOk result (AddsInstance modules.now name.now target.now known.old.items known.new.items written.old written.new) }
+{
+    let place = place_of(modules, target);
+    let ports = ports_at(modules, place);
+    let count = exact(count_at(counts, place))?;
+    let first = written.next;
+    put_ports(alloc, ports, true, false, first, &mut written.body)?;
+    written.next = plus(first, count)?;
+    known.push(Known {
+        name,
+        kind: Kind::Ports(ports),
+        flow: Flow::Source,
+        first,
+    })?;
+    Ok(())
+}
+
+fn write_connect(
+    alloc: Global,
+    line: u32,
+    sink: &Expr,
+    source: &Expr,
+    known: &[Known],
+    written: &mut Written,
+) -> Result<(), Memory>
+    ensures { OnOk result (Puts written.old written.new (connect_grounds line (value (seen known.now) sink.now) (value (seen known.now) source.now))) }
+{
+    let sink = resolve(alloc, known, sink)?;
+    let source = resolve(alloc, known, source)?;
+    put_connect(alloc, line, &sink, &source, &mut written.body)
+}
+
+fn write_invalid(
+    alloc: Global,
+    line: u32,
+    sink: &Expr,
+    known: &[Known],
+    written: &mut Written,
+) -> Result<(), Memory>
+    ensures { OnOk result (Puts written.old written.new (invalid_grounds line (value (seen known.now) sink.now))) }
+{
+    let sink = resolve(alloc, known, sink)?;
+    put_invalid(alloc, line, &sink, &mut written.body)
+}
+
+/// Writes one statement, and knows what it declares.
+#[cycle(write)]
+fn write_stmt<'a>(
+    alloc: Global,
+    modules: &'a [Module],
+    counts: &[u64],
+    stmt: &'a Stmt,
+    known: &mut Vec<Known<'a>>,
+    written: &mut Written,
+) -> Result<(), Memory>
+    requires { CountsSignals modules.now counts.now }
+    ensures { OnOk result (Writes modules.now (statement stmt.now) known.old.items known.new.items written.old written.new) }
+{
+    match stmt {
+        Stmt::Wire { line, name, ty } => write_wire(*line, name.bytes(), ty, known, written),
+        Stmt::Node { line, name, value } => {
+            write_node(alloc, *line, name.bytes(), value, known, written)
+        }
+        Stmt::Reg {
+            line,
+            name,
+            ty,
+            clock: _,
+            reset,
+        } => write_register(alloc, *line, name.bytes(), ty, reset, known, written),
+        Stmt::Inst {
+            line: _,
+            name,
+            module,
+        } => write_instance(
+            alloc,
+            modules,
+            counts,
+            name.bytes(),
+            module.bytes(),
+            known,
+            written,
+        ),
+        Stmt::Connect { line, sink, value } => {
+            write_connect(alloc, *line, sink, value, known, written)
+        }
+        Stmt::Invalid { line, sink } => write_invalid(alloc, *line, sink, known, written),
+        Stmt::When {
+            line,
+            cond,
+            taken,
+            other,
+        } => {
+            let cond = resolve(alloc, known, cond)?.worth.part(alloc, 0)?;
+            let taken = write_block(
+                alloc,
+                modules,
+                counts,
+                taken.as_slice(),
+                known,
+                written.next,
+            )?;
+            let other = write_block(alloc, modules, counts, other.as_slice(), known, taken.next)?;
+            written.put_when(*line, cond, taken.body, other)
+        }
+        Stmt::Skip { line: _ } => Ok(()),
+        Stmt::Verif {
+            line: _,
+            kind: _,
+            args: _,
+            code: _,
+            text: _,
+            label: _,
+        } => Ok(()),
+    }
+}
+
+/// Writes a block, of which the first signal has a number. Behind it, what it declares isn't known
+/// any more.
+#[cycle(write)]
+pub(crate) fn write_block<'a>(
+    alloc: Global,
+    modules: &'a [Module],
+    counts: &[u64],
+    stmts: &'a [Stmt],
+    known: &mut Vec<Known<'a>>,
+    first: u32,
+) -> Result<Written, Memory>
+    requires { CountsSignals modules.now counts.now }
+    ensures written { IfOk result (λ w. WritesBlock modules.now (body_of stmts.now) known.old.items first w) }
+    ensures known { OnOk result (known.new.items ≡ known.old.items) }
+{
+    let before = known.len();
+    let mut written = Written {
+        next: first,
+        body: Vec::new(alloc),
+    };
+    let mut k = 0;
+    while k < stmts.len() {
+        write_stmt(alloc, modules, counts, &stmts[k], known, &mut written)?;
+        k += 1;
+    }
+    known.truncate(before);
+    Ok(written)
+}
+
+impl Written {
+    fn put_when(
+        &mut self,
+        line: u32,
+        cond: GroundExpr,
+        taken: Vec<Ground>,
+        other: Written,
+    ) -> Result<(), Memory>
+        ensures body { OnOk result (self.new.body.items ≡ self.old.body.items ++ out.When line cond taken.items other.body.items ∷ []) }
+        ensures next { OnOk result (self.new.next ≡ other.next) }
+    {
+        self.next = other.next;
+        self.body.push(Ground::When {
+            line,
+            cond,
+            taken: Items::from_vec(taken),
+            other: Items::from_vec(other.body),
+        })?;
+        Ok(())
+    }
+}
