@@ -1,0 +1,6 @@
+pub mod Choosing
+pub mod Equations
+pub mod Exact
+pub mod Items
+pub mod Pass
+pub mod Showing
