@@ -1,5 +1,6 @@
 -- Walks to the least of the nearest, and where they begin.
-use Rattle.std.proofs.Common.{◌≡◌, ◌∙◌, sym, ap, subst, ℕ, zero, suc, ◌+◌, ◌<◌, ◌≤◌, true, List, [], ◌∷◌, ◌++◌, ◌⊎◌, inl, inr, refl, arith, ⊎_elim, length, take, get_or}
+use Rattle.std.proofs.Common.{◌≡◌, ◌∙◌, sym, ap, subst, ℕ, zero, suc, ◌+◌, ◌<◌, ◌≤◌, true, false, List, [], ◌∷◌, ◌++◌, ◌⊎◌, inl, inr, refl, arith, ⊎_elim, length, take, get_or}
+use Rattle.std.proofs.lemmas.Bool.{both_ways}
 use Rattle.std.specs.declared.vec.Vec.{Vec}
 use Rattle.std.specs.declared.alloc.Global.{Global}
 use Rattle.net_core.specs.Rules.{has}
@@ -145,3 +146,25 @@ pub before_or_past : (x n : ℕ) → (x < n) ⊎ (n ≤ x)
 before_or_past x zero = inr (omega arith)
 before_or_past zero (suc n) = inl (omega arith)
 before_or_past (suc x) (suc n) = ⊎_elim (λ h. inl (omega (arith, h))) (λ h. inr (omega (arith, h))) (before_or_past x n)
+
+-- the last of a walk reads what it leads to
+last_reader : (G : ℕ → ℕ → Type 0) (x : ℕ) (xs : List ℕ) (p : ℕ) → 0 < length xs → Leads G x xs p → (z : ℕ) × G z p
+last_reader G x [] p s l = absurd (omega (arith, s))
+last_reader G x (y ∷ []) p s l = (x, subst (λ q. G x q) l.3 l.2)
+last_reader G x (y ∷ w ∷ ws) p s l = last_reader G l.1 (w ∷ ws) p (omega arith) l.3
+
+no_entry : (xs : List ℕ) (z : ℕ) → length xs ≡ 0 → has xs z ≡ false
+no_entry [] z e = refl
+no_entry (x ∷ xs) z e = absurd (omega (arith, e))
+
+-- what nothing reads is on no loop
+pub not_read : (lists : List (List ℕ)) (rows : List (Vec ℕ Global)) (x : ℕ) (list : List ℕ) → Turned lists rows → x < length lists → ((k : ℕ) → has list k ≡ in_row rows x k) → length list ≡ 0
+    → (other : List ℕ) → IsLoopFrom (Reads lists) x other → ⊥
+not_read lists rows x list t h e n other l =
+    let r = last_reader (Reads lists) x other x l.some l.leads in
+    both_ways (has list r.0) (no_entry list r.0 n) (e r.0 ∙ t.all x r.0 (listed lists r.0 x r.1) h r.1)
+  where
+    listed : (ls : List (List ℕ)) (x z : ℕ) → reads_in ls x z ≡ true → x < length ls
+    listed [] x z r = absurd cc
+    listed (a ∷ rest) zero z r = omega arith
+    listed (a ∷ rest) (suc x) z r = let q : x < length rest = listed rest x z r in omega (arith, q)

@@ -1,5 +1,5 @@
 -- Graphs that a reader can follow.
-use Rattle.std.specs.Prelude.{◌≡◌, ℕ, Bool, true, false, List, [], ◌∷◌, Option, Some, None}
+use Rattle.std.specs.Prelude.{◌≡◌, ℕ, true, false, List, [], ◌∷◌, Some}
 use Rattle.net_core.specs.declared.ports.Signal.{Signal}
 use Rattle.net_core.specs.declared.tree.SignalInfo.{SignalInfo}
 use Rattle.net_core.specs.declared.tree.Role.{Role}
@@ -9,8 +9,6 @@ use Rattle.net_core.specs.declared.tree.Choice.TheVariants.{Take, When}
 use Rattle.net_core.specs.declared.tree.Equation.TheVariants.{Input, Comb, Reg}
 use Rattle.net_core.specs.declared.tree.Net.{Net}
 use Rattle.net_core.specs.Nets.{net_reads}
-use Rattle.net_graph.specs.declared.inputs.InputSet.{InputSet}
-use Rattle.net_graph.specs.Graphs.{reads_in, Follows}
 use Rattle.net_graph.specs.Loops.{IsLoopFrom}
 use Rattle.net_graph.specs.Falling.{Reads}
 use Rattle.net_graph.specs.NetGraphs.{OwnReads, stands_for}

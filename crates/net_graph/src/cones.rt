@@ -86,8 +86,8 @@ fn fill(lists: &[Seq<u32>], signals: &[SignalInfo], order: &[Signal], sets: &mut
     }
 }
 
-/// The cones of a net, whose order is given. The time is linear in the signals and their reads, with two words for each
-/// signal and for each read.
+/// The cones of a net, whose order is given. The time is linear in the signals and their reads, and the table keeps 32
+/// bytes for each signal and 4 for each read.
 pub fn cone_table(alloc: Global, net: &Net, levels: &LevelOrder) -> Result<Cones, Memory>
     requires net { IsNumbered net.now }
     requires inputs { (p : ℕ) → input_at net.now p ≡ true → p < 256 }

@@ -8,7 +8,7 @@ use std::alloc::Global;
 use tb_base::Memory;
 
 /// The row of a number, or none where there is no such row.
-fn row(rows: &[Vec<u32>], z: usize) -> &[u32]
+pub(crate) fn row(rows: &[Vec<u32>], z: usize) -> &[u32]
     ensures { (k : ℕ) → has result.now k ≡ in_row rows.now z k }
 {
     match rows.get(z) {

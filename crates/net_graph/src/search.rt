@@ -7,7 +7,7 @@ ghost use Rattle.net_graph.specs.Distances.{distance_of, Measures};
 ghost use Rattle.net_graph.specs.Loops.{Leads, IsLoopFrom, IsNamedLoop, IsNamedChain, NoLoops};
 ghost use Rattle.net_graph.specs.Falling.{Falls, NearerOf, NearestIn, Reads};
 
-use crate::distance::distances;
+use crate::distance::{distances, row};
 use crate::readers::readers_of;
 use std::alloc::Global;
 use tb_base::{Memory, Seq};
@@ -86,6 +86,9 @@ fn loop_from(
 {
     let list = lists[x as usize].items();
     if list.is_empty() {
+        return Ok(None);
+    }
+    if row(readers, x as usize).is_empty() {
         return Ok(None);
     }
     let distances = distances(alloc, readers, x, far)?;

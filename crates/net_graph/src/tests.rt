@@ -27,7 +27,7 @@ fn what_is_read_comes_first(rt: HostRuntime) -> Result<(), Fail> {
         let order = furthest_order(rt.alloc(), &lists, &readers)
             .ok()
             .ok_or("no memory")?;
-        assert!(rt; order.as_slice() == &[2, 1, 0]);
+        assert!(rt; order.as_slice() == [2, 1, 0].as_slice());
     }
     Ok(())
 }
@@ -42,7 +42,7 @@ fn a_loop_is_left_out(rt: HostRuntime) -> Result<(), Fail> {
         let order = furthest_order(rt.alloc(), &lists, &readers)
             .ok()
             .ok_or("no memory")?;
-        assert!(rt; order.as_slice() == &[2]);
+        assert!(rt; order.as_slice() == [2].as_slice());
     }
     Ok(())
 }

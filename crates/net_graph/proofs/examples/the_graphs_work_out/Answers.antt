@@ -1,4 +1,4 @@
-use Rattle.std.proofs.Common.{◌≡◌, true, refl, inr, inl, arith}
+use Rattle.std.proofs.Common.{◌≡◌, true, refl, inr, arith}
 use Rattle.net_core.specs.Nets.{net_reads}
 use Rattle.net_core.proofs.Trees.{at_read}
 use Rattle.net_graph.specs.Examples.{gated}
@@ -10,7 +10,7 @@ condition : net_reads gated 2 4 ≡ true
 condition = simp (one_take, one_when, at_read) refl
 
 under : net_reads gated 4 1 ≡ true
-under = simp (one_take, one_when, at_read) refl
+under = simp (one_take, at_read) refl
 
 pub returns : goal.returns
 returns c = record {

@@ -4,7 +4,7 @@ use Rattle.net_graph.specs.Distances.{distance_of, Measures}
 use Rattle.net_graph.specs.Loops.{IsNamedLoop}
 use Rattle.net_graph.specs.Falling.{NearestIn, Falls, Reads}
 use Rattle.net_graph.proofs.LoopFacts.{loop_named, no_loop_from}
-use Rattle.net_graph.proofs.SearchFacts.{nothing_read, measures_lists, nearest_reads}
+use Rattle.net_graph.proofs.SearchFacts.{not_read, nothing_read, measures_lists, nearest_reads}
 use Rattle.net_graph.proofs.search.loop_from.Goals as goal
 
 pub returns-then-is_empty-clause-none : goal.returns-then-is_empty-clause-none
@@ -42,3 +42,9 @@ returns-clause-some c =
     let p : c.in_ok-path.path.items ≡ c.args.x ∷ [] = grind (arith, common_steps) in
     subst (λ (q : List ℕ). IsNamedLoop (Reads c.args.lists.now) c.args.x q) (sym (w.2 ∙ ap (λ (q : List ℕ). q ++ w.0) p))
     (loop_named (Reads c.args.lists.now) c.args.far D c.args.x c.nearest-first.result w.0 o m (nearest_reads c.args.lists.now D c.args.x c.nearest-first.result n) f w.1 c.requires.first)
+
+pub returns-then-is_empty-2-clause-none : goal.returns-then-is_empty-2-clause-none
+returns-then-is_empty-2-clause-none c other l =
+    let h : c.args.x < length c.args.lists.now = grind (arith, common_steps) in
+    let n : length c.row.result.now ≡ 0 = grind (arith, common_steps) in
+    not_read c.args.lists.now c.args.readers.now c.args.x c.row.result.now c.requires.turned h c.row.ensures n other l
