@@ -12,6 +12,6 @@ mod printing;
 mod tests;
 mod tree;
 
-pub use examples::the_printed_form_works_out;
+pub use examples::{parentheses_stand_by_tightness, the_printed_form_works_out};
 pub use printing::print_test;
 pub use tree::{DriverKind, TestExpr, TestOp, TestStmt, TestText};
