@@ -4,7 +4,6 @@
 -- number, a word, or an expression in parentheses. All but comparisons group to the left. An expression has at most so many
 -- operators, one-sided ones and those in its parentheses included, so each part says how many may still come behind it.
 use Rattle.std.specs.Prelude.{ℕ, zero, suc, ◌-◌, ◌==◌, Bool, true, false, List, [], ◌∷◌, Option, Some, None}
-use Rattle.std.specs.List.{list_any}
 use Rattle.text_grammar.specs.declared.item.Item.{Item}
 use Rattle.text_grammar.specs.declared.item.Token.{Token}
 use Rattle.text_grammar.specs.declared.item.Token.TheVariants as token
