@@ -100,7 +100,7 @@ no_instances : (f : Leaf → Entry) → ((l : Leaf) (es : List Entry) → instan
 no_instances f h [] es = refl
 no_instances f h (l ∷ ls) es = h l (map f ls ++ es) ∙ no_instances f h ls es
 
-instances-append : (xs ys : List Entry) → instances (xs ++ ys) ≡ instances xs ++ instances ys
+pub instances-append : (xs ys : List Entry) → instances (xs ++ ys) ≡ instances xs ++ instances ys
 instances-append [] ys = refl
 instances-append (made info ∷ xs) ys = instances-append xs ys
 instances-append (opened o ∷ xs) ys = ap (λ os. o ∷ os) (instances-append xs ys)

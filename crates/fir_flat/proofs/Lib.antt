@@ -25,3 +25,4 @@ pub mod WritingFacts
 pub mod SignalFacts
 pub mod ListingFacts
 pub mod PortEntries
+pub mod CourseFacts

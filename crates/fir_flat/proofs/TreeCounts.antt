@@ -20,7 +20,7 @@ use Rattle.fir_flat.proofs.Unnumbered.{ports-alike}
 use Rattle.fir_flat.proofs.LeafFacing.{one_if}
 use Rattle.fir_flat.proofs.BodyCounts.{is_made, signals_made, ports_made, body_made, ports_open_nothing, body_opened, parts_in, taken_ports, declared_parts, inputs_at, body_parts}
 
-abbrev target : Opened → ℕ
+abbrev pub target : Opened → ℕ
 target o = o.target
 
 -- the instances in an instance are those of its module
@@ -31,7 +31,7 @@ each_opened f g h modules o =
     ap (map f) (ports_open_nothing o m.ports (entries modules o.prefix (ports_known o.first m.ports) (behind_ports o m.ports) (body_of m.body)))
     ∙ body_opened _ f g h modules o.prefix (ports_known o.first m.ports) (behind_ports o m.ports) (body_of m.body)
 
-targets_are : (modules : List Module) (o : Opened) → map target (instances_of modules o) ≡ targets_of modules o.target
+pub targets_are : (modules : List Module) (o : Opened) → map target (instances_of modules o) ≡ targets_of modules o.target
 targets_are modules o = each_opened target (λ t. t) (λ name t first prefix. refl) modules o ∙ map-id (targets_of modules o.target)
 
 -- signals

@@ -18,3 +18,4 @@ pub mod Tallies
 pub mod Elaboration
 pub mod Limits
 pub mod Examples
+pub mod Flattening

@@ -14,6 +14,7 @@
 
 mod counts;
 mod examples;
+mod flattening;
 mod homes;
 mod kinds;
 mod limits;
@@ -36,4 +37,5 @@ pub use examples::{
     the_adder_works_out, the_bundles_work_out, the_indices_work_out, the_instances_work_out,
     the_leaves_work_out, the_queue_works_out, the_sizes_count_leaves,
 };
+pub use flattening::flatten;
 pub use limits::{FlatFault, check_limits, the_counts_are_exact};
