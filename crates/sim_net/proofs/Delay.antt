@@ -1,18 +1,14 @@
 -- The example's net is ready for an engine.
-use Rattle.std.proofs.Common.{◌≡◌, ◌∙◌, sym, ap, subst, ℕ, zero, suc, ◌<◌, ◌≤◌, ◌^◌, Bool, true, false, ◌&&◌, ◌||◌, List, [], ◌∷◌, Option, Some, None, refl, nat_eq, length, arith, ⊎_elim}
+use Rattle.std.proofs.Common.{◌≡◌, ◌∙◌, sym, ap, subst, ℕ, zero, suc, ◌<◌, ◌≤◌, Bool, true, false, ◌&&◌, ◌||◌, [], ◌∷◌, Some, refl, nat_eq, length, arith, ⊎_elim}
 use Rattle.std.proofs.lemmas.Bool.{or_cases, or_left, eqb-true}
-use Rattle.net_core.specs.declared.ports.Signal.{Signal}
-use Rattle.net_core.specs.declared.tree.GroundExpr.{GroundExpr}
 use Rattle.net_core.specs.declared.tree.GroundExpr.TheVariants.{Read}
-use Rattle.net_core.specs.declared.tree.SignalInfo.{SignalInfo}
-use Rattle.net_core.specs.declared.tree.Choice.{Choice}
-use Rattle.net_core.specs.declared.tree.Choice.TheVariants.{Take, rolls-Take}
+use Rattle.net_core.specs.declared.tree.Choice.TheVariants.{rolls-Take}
 use Rattle.net_core.specs.declared.tree.Choice.TheFolds.{fold-roll-Choice}
 use Rattle.net_core.specs.declared.tree.Choice.TheOpen.{Choice-F}
 use Rattle.net_core.specs.declared.tree.Net.{Net}
 use Rattle.net_core.specs.Signals.{info, given_width}
-use Rattle.net_core.specs.Values.{mentions, level_mentions}
-use Rattle.net_core.specs.Nets.{Choices, nothing, take, choices_of, choices_read, one_choice, level_choice, net_reads, equation}
+use Rattle.net_core.specs.Values.{level_mentions}
+use Rattle.net_core.specs.Nets.{Choices, nothing, take, choices_of, choices_read, one_choice, level_choice, equation}
 use Rattle.net_core.specs.Rules.{has}
 use Rattle.net_core.proofs.Trees.{at_read}
 use Rattle.sim_net.specs.Words.{InWidths, Held, held, level_held, choices_fit}

@@ -1,6 +1,5 @@
 -- A worked example.
 use Rattle.std.specs.Prelude.{ℕ, false, Some, List, [], ◌∷◌}
-use Rattle.net_core.specs.declared.ports.Signal.{Signal}
 use Rattle.net_core.specs.declared.tree.Role.{Role}
 use Rattle.net_core.specs.declared.tree.Role.TheVariants as role
 use Rattle.net_core.specs.declared.tree.SignalInfo.{SignalInfo}
