@@ -1,19 +1,16 @@
 -- Choices one at a time, and what they depend on.
-use Rattle.std.proofs.Common.{◌≡◌, ◌∙◌, sym, ap, subst, ℕ, ◌+◌, ◌<◌, Bool, true, false, ◌&&◌, ◌||◌, List, [], ◌∷◌, Option, Some, None, map, refl, cond, nat_eq, drop, drop-cons, get_or, length, add-one}
+use Rattle.std.proofs.Common.{◌≡◌, ◌∙◌, sym, ap, subst, ℕ, ◌+◌, ◌<◌, Bool, true, false, ◌&&◌, ◌||◌, List, ◌∷◌, Option, Some, refl, cond, nat_eq, drop, drop-cons, get_or, length, add-one}
 use Rattle.std.proofs.lemmas.Bool.{or_left, or_right, eq-eqb}
 use Rattle.tb_base.specs.Word.{Word}
-use Rattle.net_core.specs.declared.ports.Signal.{Signal}
 use Rattle.net_core.specs.declared.tree.SignalInfo.{SignalInfo}
-use Rattle.net_core.specs.declared.tree.GroundExpr.{GroundExpr}
 use Rattle.net_core.specs.declared.tree.Choice.{Choice}
-use Rattle.net_core.specs.declared.tree.Choice.TheVariants.{Take, When, rolls-Take, rolls-When}
 use Rattle.net_core.specs.declared.tree.Choice.TheFolds.{fold-roll-Choice, ind-Choice, map-Choice}
 use Rattle.net_core.specs.declared.tree.Choice.TheOpen.{Choice-F}
 use Rattle.net_core.specs.Last.{source, source_mentions}
 use Rattle.net_core.specs.Nets.{Choices, nothing, take, branch, chosen, choices_of, choices_read, one_choice, level_choice}
 use Rattle.net_core.proofs.BodyFacts.{source_local}
-use Rattle.sim_net.specs.Words.{InWidths, source_fits, choices_fit, held, computed}
-use Rattle.sim_net.proofs.Exact.{both_true, exact}
+use Rattle.sim_net.specs.Words.{InWidths, source_fits, choices_fit}
+use Rattle.sim_net.proofs.Exact.{both_true}
 
 abbrev append : Choices → Choices → Choices
 append nothing more = more

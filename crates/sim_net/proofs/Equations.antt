@@ -1,5 +1,5 @@
 -- What the code finds of an equation.
-use Rattle.std.proofs.Common.{◌≡◌, ◌∙◌, sym, ap, subst, ℕ, ◌<◌, ◌≤◌, true, List, Option, Some, None, length, get_or}
+use Rattle.std.proofs.Common.{◌≡◌, ◌∙◌, sym, ap, subst, ℕ, ◌<◌, true, List, Option, Some, None, length, get_or}
 use Rattle.std.specs.Prelude.{unwrap_or}
 use Rattle.std.proofs.lemmas.List.{get_or_default}
 use Rattle.tb_base.specs.Word.{Word}
@@ -8,7 +8,7 @@ use Rattle.net_core.specs.declared.tree.SignalInfo.{SignalInfo}
 use Rattle.net_core.specs.declared.tree.Choice.{Choice}
 use Rattle.net_core.specs.declared.tree.Net.{Net}
 use Rattle.net_core.specs.declared.tree.Equation.{Equation}
-use Rattle.net_core.specs.declared.tree.Equation.TheVariants.{Input, Comb, Reg}
+use Rattle.net_core.specs.declared.tree.Equation.TheVariants.{Comb, Reg}
 use Rattle.net_core.specs.Signals.{info, no_info}
 use Rattle.net_core.specs.Settled.{fitted, connected}
 use Rattle.net_core.specs.Nets.{equation, no_equation, by_equation, next_by, next_value, chosen, choices_of}

@@ -1,8 +1,8 @@
 -- Where an expression fits, what is computed is its value.
-use Rattle.std.proofs.Common.{◌≡◌, ◌∙◌, sym, ap, ℕ, pos, Bool, true, false, ◌&&◌, ◌==◌, List, [], ◌∷◌, Option, Some, None, refl, map, subst, cond, nat_le, length, ◌<◌, ◌^◌}
+use Rattle.std.proofs.Common.{◌≡◌, ◌∙◌, sym, ap, ℕ, pos, Bool, true, false, ◌&&◌, ◌==◌, List, [], ◌∷◌, Option, Some, None, refl, map, subst, cond, nat_le, length}
 use Rattle.std.specs.List.{list_all}
 use Rattle.std.specs.Prelude.{slice_index, unwrap_or}
-use Rattle.tb_base.specs.Word.{Word, cut, value_of}
+use Rattle.tb_base.specs.Word.{Word, cut}
 use Rattle.tb_base.specs.Row.{row_word, row_fits, flag, no_word, applied, operand_count, number_count}
 use Rattle.tb_base.specs.declared.op.Op.{Op}
 use Rattle.tb_base.proofs.Words.{low_bits-value_of}
@@ -13,7 +13,7 @@ use Rattle.net_core.specs.declared.tree.GroundExpr.TheOpen.{GroundExpr-F}
 use Rattle.net_core.specs.declared.tree.GroundExpr.TheViews.{roll-GroundExpr}
 use Rattle.net_core.specs.Shapes.{literal_width}
 use Rattle.net_core.specs.Signals.{info, given_width}
-use Rattle.net_core.specs.Values.{level_value, value, word_at, word_of, literal_value}
+use Rattle.net_core.specs.Values.{level_value, value, word_at, literal_value}
 use Rattle.net_core.proofs.ExprFacts.{value_roll}
 use Rattle.sim_net.specs.Words.{Held, held, level_held, level_fits, computed, level_computed, within, picked_word, InWidths, source_fits}
 use Rattle.net_core.specs.Last.{source}

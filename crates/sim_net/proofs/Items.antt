@@ -1,20 +1,20 @@
 -- Operands by place, and the items of a Select one at a time.
-use Rattle.std.proofs.Common.{◌≡◌, ◌∙◌, sym, ap, subst, ℕ, zero, suc, ◌+◌, ◌<◌, ◌≤◌, Bool, true, false, ◌==◌, nat_eq, nat_le, List, [], ◌∷◌, ◌++◌, map, length, get_or, take, max, cond, refl, arith, pos, ◌&&◌, Option, Some, None}
+use Rattle.std.proofs.Common.{◌≡◌, ◌∙◌, sym, ap, subst, ℕ, zero, suc, ◌+◌, ◌<◌, ◌≤◌, Bool, false, ◌==◌, nat_eq, List, [], ◌∷◌, ◌++◌, map, length, get_or, take, max, cond, refl, arith, pos, ◌&&◌, Option, None}
 use Rattle.std.proofs.Math.Dec.{eqb-zero-suc, eqb-suc-zero, eqb-suc-suc}
 use Rattle.std.proofs.lemmas.Bool.{ne_eqb}
 use Rattle.std.proofs.lemmas.List.{take_more, take_all, length-take, length-map}
-use Rattle.std.specs.Prelude.{slice_index, unwrap_or}
+use Rattle.std.specs.Prelude.{unwrap_or}
 use Rattle.tb_base.specs.Word.{Word, cut, value_of, low_bits}
-use Rattle.tb_base.specs.Row.{no_word, applied, operand_count, number_count, flag}
+use Rattle.tb_base.specs.Row.{no_word, applied, operand_count, number_count}
 use Rattle.tb_base.specs.declared.op.Op.{Op}
 use Rattle.tb_base.specs.declared.op.Op.TheVariants.{Add, Sub, Mul, Div, Rem, Lt, Leq, Gt, Geq, Eq, Neq, Pad, AsUInt, AsSInt, Shl, Shr, Dshl, Dshr, Cvt, Neg, Not, And, Or, Xor, Andr, Orr, Xorr, Cat, Bits, Head, Tail, Mux}
 use Rattle.tb_base.proofs.Words.{cut_word}
 use Rattle.net_core.specs.declared.tree.SignalInfo.{SignalInfo}
 use Rattle.net_core.specs.declared.tree.GroundExpr.{GroundExpr}
-use Rattle.net_core.specs.declared.tree.GroundExpr.TheVariants.{Apply, Select, IndexIs}
+use Rattle.net_core.specs.declared.tree.GroundExpr.TheVariants.{Apply, Select}
 use Rattle.net_core.specs.Shapes.{greatest}
 use Rattle.net_core.specs.Values.{word_at}
-use Rattle.net_core.proofs.Trees.{at_apply, at_select, at_index_is}
+use Rattle.net_core.proofs.Trees.{at_apply, at_select}
 use Rattle.sim_net.specs.Words.{computed, level_computed, picked_word}
 
 -- a row has at most three operands

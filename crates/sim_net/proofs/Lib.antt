@@ -1,4 +1,5 @@
 pub mod Choosing
+pub mod Delay
 pub mod Equations
 pub mod Exact
 pub mod Items

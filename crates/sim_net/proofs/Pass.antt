@@ -1,5 +1,5 @@
 -- A pass in the order meets the equations.
-use Rattle.std.proofs.Common.{◌≡◌, ◌∙◌, sym, ap, subst, ℕ, zero, suc, ◌+◌, ◌<◌, ◌≤◌, ◌%◌, ◌^◌, Bool, true, false, List, [], ◌∷◌, ◌++◌, Option, Some, None, map, refl, cond, nat_eq, drop, get_or, length, ◌⊎◌, inl, inr, ⊎_elim, arith, take, replicate}
+use Rattle.std.proofs.Common.{◌≡◌, ◌∙◌, sym, ap, subst, ℕ, zero, suc, ◌+◌, ◌<◌, ◌≤◌, ◌^◌, true, false, List, [], ◌∷◌, ◌++◌, Option, Some, None, refl, nat_eq, drop, get_or, length, ◌⊎◌, inl, inr, ⊎_elim, arith, take, replicate}
 use Rattle.std.specs.Prelude.{slice_index, slice_set, unwrap_or}
 use Rattle.std.proofs.lemmas.Bool.{or_cases, or_left, or_right, eq-eqb, ne_eqb, cases_eq}
 use Rattle.std.proofs.lemmas.List.{get_or-set_same, get_or-set_other, take_more, length-take, length-set, drop_more}
@@ -19,7 +19,7 @@ use Rattle.net_core.specs.Nets.{equation, by_equation, equation_reads, net_reads
 use Rattle.net_core.specs.Engines.{SettledNet, next_values}
 use Rattle.net_core.specs.Rules.{Rules, has, put}
 use Rattle.net_core.proofs.RulesFacts.{Good, step_good, put_same, put_other}
-use Rattle.sim_net.specs.Words.{at, InWidths}
+use Rattle.sim_net.specs.Words.{at}
 use Rattle.sim_net.specs.Ready.{Kept, Follows, InOrder, numbers}
 use Rattle.sim_net.proofs.Choosing.{chosen_local}
 

@@ -1,5 +1,5 @@
 -- What the engine shows.
-use Rattle.std.proofs.Common.{◌≡◌, ◌∙◌, sym, ap, subst, ℕ, ◌+◌, ◌<◌, ◌≤◌, ◌^◌, Bool, true, false, List, [], ◌∷◌, ◌++◌, drop, take, length, refl, pos, replicate, arith}
+use Rattle.std.proofs.Common.{◌≡◌, ◌∙◌, sym, ap, subst, ℕ, Bool, true, false, List, ◌++◌, drop, take, length, pos, replicate}
 use Rattle.std.specs.Prelude.{slice_index}
 use Rattle.std.proofs.Math.Seq.{take-append_seam}
 use Rattle.std.proofs.lemmas.Bool.{le-leb}
@@ -11,7 +11,7 @@ use Rattle.net_core.specs.Signals.{info, given_width}
 use Rattle.net_core.specs.Values.{word_of}
 use Rattle.net_core.specs.Engines.{SettledNet, ShowsSettled, AfterEdge, next_values}
 use Rattle.sim_net.specs.Words.{at, within}
-use Rattle.sim_net.specs.Ready.{Fits, Kept, InOrder, Runs, Run, numbers}
+use Rattle.sim_net.specs.Ready.{Fits, Kept, InOrder, Runs, Run}
 use Rattle.sim_net.proofs.Exact.{within_is}
 use Rattle.sim_net.proofs.Pass.{kept_zeros}
 

@@ -1,5 +1,5 @@
 -- Which expressions have values that bits can hold, and what the engine computes of any expression.
-use Rattle.std.specs.Prelude.{ℕ, pos, ◌≡◌, ◌<◌, ◌^◌, Bool, true, false, ◌&&◌, ◌==◌, nat_le, if◌then◌else◌, List, length, map, slice_index, slice_index_or, unwrap_or, Option, Some, None}
+use Rattle.std.specs.Prelude.{ℕ, pos, ◌<◌, ◌^◌, Bool, true, false, ◌&&◌, ◌==◌, nat_le, if◌then◌else◌, List, length, map, slice_index, unwrap_or, Option, Some, None}
 use Rattle.std.specs.List.{list_all}
 use Rattle.tb_base.specs.Word.{Word, cut, value_of}
 use Rattle.tb_base.specs.Row.{no_word, operand_count, number_count, row_fits, applied, flag}

@@ -8,6 +8,7 @@ use crate::words::{computed, nothing, number_at};
 use net_core::{Choice, GroundExpr, SignalInfo};
 use tb_base::Bits;
 
+/// What a Take gives: an invalidation gives 0.
 fn source_value(e: &Option<GroundExpr>, signals: &[SignalInfo], values: &[u128]) -> Bits
     ensures { InWidths signals.now (at values.now) → source_fits signals.now (at values.now) e.now ≡ true → result ≡ source signals.now e.now (at values.now) }
 {
@@ -39,7 +40,8 @@ fn one_value(
     }
 }
 
-/// The value of the last Take all of whose Whens hold, or what was before.
+/// The value of the last Take all of whose Whens hold, or what was before, where `values` has the bits of each signal.
+/// It takes time linear in the size of the choices at most: of a When only one side is evaluated.
 #[cycle(choose)]
 pub fn chosen_value(
     choices: &[Choice],

@@ -69,6 +69,7 @@ fn literal_word(negative: bool, magnitude: u128) -> u128
     }
 }
 
+/// The value of a literal, in the least width that holds it where none is written.
 fn literal(signed: bool, width: Option<u8>, negative: bool, magnitude: u128) -> Bits
     ensures { result ≡ cut (within (unwrap_or width (literal_width signed negative magnitude))) signed (literal_value negative magnitude) }
 {
@@ -132,6 +133,7 @@ fn note(so_far: Picked, k: usize, place: u128, word: Bits) -> Picked
     }
 }
 
+/// The value of an expression that fits; of any other, some bits.
 #[cycle(eval)]
 pub(crate) fn computed(e: &GroundExpr, signals: &[SignalInfo], values: &[u128]) -> Bits
     ensures { result ≡ computed signals.now (at values.now) e.now }

@@ -1,6 +1,4 @@
-use Rattle.std.proofs.Common.{◌∙◌, ap}
-use Rattle.net_core.specs.Last.{source}
-use Rattle.sim_net.specs.Words.{at, source_fits}
+use Rattle.sim_net.specs.Words.{at}
 use Rattle.sim_net.proofs.Exact.{exact_source}
 use Rattle.sim_net.proofs.choices.source_value.Goals as goal
 

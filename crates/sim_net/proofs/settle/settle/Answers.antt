@@ -1,4 +1,4 @@
-use Rattle.std.proofs.Common.{◌∙◌, arith, refl}
+use Rattle.std.proofs.Common.{refl}
 use Rattle.sim_net.proofs.Pass.{pass_below, pass_next}
 use Rattle.sim_net.proofs.settle.settle.Goals as goal
 

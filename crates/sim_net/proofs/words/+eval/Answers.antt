@@ -1,5 +1,4 @@
-use Rattle.std.proofs.Common.{◌∙◌, sym, ap, map, arith, length}
-use Rattle.std.specs.Prelude.{slice_index}
+use Rattle.std.proofs.Common.{◌∙◌, ap, map, arith}
 use Rattle.net_core.specs.Values.{word_at}
 use Rattle.sim_net.specs.Words.{at, computed, picked_word}
 use Rattle.sim_net.proofs.Items.{apply_done, select_done, note_next, pick_done}

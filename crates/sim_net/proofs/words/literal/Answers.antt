@@ -1,4 +1,4 @@
-use Rattle.std.proofs.Common.{◌∙◌, refl, ap, ◌≡◌, ℕ}
+use Rattle.std.proofs.Common.{◌∙◌, refl, ap}
 use Rattle.tb_base.specs.Word.{cut}
 use Rattle.tb_base.proofs.Words.{cut_word}
 use Rattle.net_core.specs.Values.{literal_value}

@@ -1,5 +1,4 @@
-use Rattle.std.proofs.Common.{◌∙◌, ap, sym, length}
-use Rattle.net_core.specs.declared.tree.Net.{Net}
+use Rattle.std.proofs.Common.{ap}
 use Rattle.sim_net.specs.Ready.{numbers}
 use Rattle.sim_net.proofs.Showing.{starts, zeros}
 use Rattle.sim_net.proofs.engine.PlainEngine.new.Goals as goal

@@ -1,4 +1,4 @@
-use Rattle.std.proofs.Common.{◌∙◌, sym, ap, arith, refl, length}
+use Rattle.std.proofs.Common.{◌∙◌, ap, arith, refl, length}
 use Rattle.net_core.specs.Engines.{next_values}
 use Rattle.sim_net.specs.Words.{at}
 use Rattle.sim_net.proofs.Showing.{written, advances, settled_same}

@@ -1,5 +1,5 @@
 use Rattle.std.proofs.Common.{◌∙◌, sym, ap, arith, refl, length}
-use Rattle.sim_net.specs.Ready.{Runs, numbers}
+use Rattle.sim_net.specs.Ready.{numbers}
 use Rattle.sim_net.proofs.Showing.{written, runs_same, shows, settled_same}
 use Rattle.sim_net.proofs.engine.PlainEngineEngine.value.Goals as goal
 
