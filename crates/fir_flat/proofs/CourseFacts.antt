@@ -1,5 +1,5 @@
 -- What is written of an elaboration, and what is still to come, are the whole.
-use Rattle.std.proofs.Common.{◌≡◌, ◌∙◌, ◌+◌, ◌<◌, sym, ap, ap₂, ℕ, zero, suc, List, [], ◌∷◌, ◌++◌, refl, map, sum, length, arith, append_assoc, append-nil, subst, All, reverse, flat_map}
+use Rattle.std.proofs.Common.{◌≡◌, ◌∙◌, ◌+◌, ◌<◌, sym, ap, ap₂, ℕ, zero, suc, List, [], ◌∷◌, ◌++◌, refl, map, sum, length, arith, append_assoc, subst, All, reverse, flat_map}
 use Rattle.std.proofs.lemmas.List.{map-append, reverse-append, reverse-reverse}
 use Rattle.fir_ast.specs.declared.tree.Module.{Module}
 use Rattle.net_core.specs.declared.tree.SignalInfo.{SignalInfo}
@@ -11,7 +11,7 @@ use Rattle.fir_flat.specs.Modules.{over, module_at, targets_of, Ranked}
 use Rattle.fir_flat.specs.Elaboration.{Entry, made, opened, Opened, entries_of, entries_in, all_infos, infos_of, own_body, instances, instances_of, list_of}
 use Rattle.fir_flat.specs.Signals.{seen_entry, seen_entries}
 use Rattle.fir_flat.specs.Writing.{own_grounds}
-use Rattle.fir_flat.specs.Flattening.{coming, infos_in, lists_in, entry_count, counted_in, Expands, Runs, IsWhole}
+use Rattle.fir_flat.specs.Flattening.{coming, infos_in, lists_in, entry_count, counted_in, Expands}
 use Rattle.fir_flat.proofs.Over.{over-equation}
 use Rattle.fir_flat.proofs.Totals.{total, sum_total, total-append}
 use Rattle.fir_flat.proofs.BodyCounts.{instances-append}
@@ -104,16 +104,13 @@ counted-cons modules e es =
 
 -- the list that the code keeps
 
-pub coming_next : (es : List OwnEntry) (e : OwnEntry) → coming (es ++ e ∷ []) ≡ seen_entry e ∷ coming es
-coming_next es e = ap reverse (map-append seen_entry es (e ∷ [])) ∙ reverse-append (seen_entries es) (seen_entry e ∷ [])
-
 map-reversed : {X Y : Type 0} (f : X → Y) (xs : List X) → map f (reverse xs) ≡ reverse (map f xs)
 map-reversed f [] = refl
 map-reversed f (x ∷ xs) =
     ap (map f) (reverse-append (x ∷ []) xs) ∙ map-append f (reverse xs) (x ∷ []) ∙ ap (λ ys. ys ++ f x ∷ []) (map-reversed f xs)
     ∙ sym (reverse-append (f x ∷ []) (map f xs))
 
-pub coming_more : (es own : List OwnEntry) → coming (es ++ reverse own) ≡ seen_entries own ++ coming es
+coming_more : (es own : List OwnEntry) → coming (es ++ reverse own) ≡ seen_entries own ++ coming es
 coming_more es own =
     ap reverse (map-append seen_entry es (reverse own)) ∙ reverse-append (seen_entries es) (seen_entries (reverse own))
     ∙ ap (λ ys. ys ++ coming es) (ap reverse (map-reversed seen_entry own) ∙ reverse-reverse (seen_entries own))
@@ -163,41 +160,4 @@ opened_expands modules rank r o own t u h s b c =
           (ap (λ (x : List Ground). gs ++ x) (lists-append modules new es) ∙ sym (append_assoc gs (lists_in modules new) (lists_in modules es))
           ∙ ap (λ (x : List Ground). x ++ lists_in modules es) (sym (list_opened modules rank r o)));
       fewer = omega (arith, n, m, w);
-    }
-
--- the loop: t is what was popped from, s what was left by that
-
-pub runs_first : (modules : List Module) (o : Opened) (e : OwnEntry) (t : Course) → seen_entry e ≡ opened o → t.signals.items ≡ [] → t.body.items ≡ []
-    → t.to_come.items ≡ e ∷ [] → Runs modules o t
-runs_first modules o e t h s b c =
-    let f : coming t.to_come.items ≡ opened o ∷ [] = ap coming c ∙ ap (λ (x : Entry). x ∷ []) h in
-    record {
-      signals = ap₂ (λ (x : List SignalInfo) (y : List Entry). x ++ infos_in modules y) s f;
-      body = ap₂ (λ (x : List Ground) (y : List Entry). x ++ lists_in modules y) b f;
-    }
-
-popped : (t s : Course) (e : OwnEntry) → t.to_come.items ≡ s.to_come.items ++ e ∷ [] → coming t.to_come.items ≡ seen_entry e ∷ coming s.to_come.items
-popped t s e c = ap coming c ∙ coming_next s.to_come.items e
-
-pub runs_next : (modules : List Module) (o : Opened) (e : OwnEntry) (t s u : Course) → Runs modules o t → s.signals.items ≡ t.signals.items → s.body.items ≡ t.body.items
-    → t.to_come.items ≡ s.to_come.items ++ e ∷ [] → Expands modules (seen_entry e) s u → Runs modules o u
-runs_next modules o e t s u r a b c x = record {
-  signals = x.signals ∙ ap₂ (λ (y : List SignalInfo) (z : List Entry). y ++ infos_in modules z) a (sym (popped t s e c)) ∙ r.signals;
-  body = x.body ∙ ap₂ (λ (y : List Ground) (z : List Entry). y ++ lists_in modules z) b (sym (popped t s e c)) ∙ r.body;
-}
-
-pub runs_down : (modules : List Module) (e : OwnEntry) (t s u : Course) → t.to_come.items ≡ s.to_come.items ++ e ∷ [] → Expands modules (seen_entry e) s u
-    → counted_in modules (coming u.to_come.items) < counted_in modules (coming t.to_come.items)
-runs_down modules e t s u c x =
-    let a : counted_in modules (coming t.to_come.items) ≡ counted_in modules (seen_entry e ∷ coming s.to_come.items) = ap (counted_in modules) (popped t s e c) in
-    let f = x.fewer in
-    omega (arith, a, f)
-
-pub runs_out : (modules : List Module) (o : Opened) (t : Course) → Runs modules o t → t.to_come.items ≡ [] → IsWhole modules o t
-runs_out modules o t r c =
-    let e : coming t.to_come.items ≡ [] = ap coming c in
-    record {
-      signals = sym (append-nil t.signals.items) ∙ ap (λ (x : List Entry). t.signals.items ++ infos_in modules x) (sym e) ∙ r.signals
-          ∙ append-nil (infos_of modules (opened o));
-      body = sym (append-nil t.body.items) ∙ ap (λ (x : List Entry). t.body.items ++ lists_in modules x) (sym e) ∙ r.body ∙ append-nil (list_of modules o);
     }

@@ -3,7 +3,7 @@ ghost use Rattle.std.specs.Prelude.{◌≡◌, ◌<◌, ℕ, length, IfOk, IfErr
 ghost use Rattle.fir_flat.specs.Modules.{place_of, targets_of, Ranked};
 ghost use Rattle.fir_flat.specs.Elaboration.{opened, elab};
 ghost use Rattle.fir_flat.specs.Flattening.{Expands, IsWhole};
-ghost use Rattle.fir_flat.specs.Limits.{IsRanked, Passes};
+ghost use Rattle.fir_flat.specs.Limits.{IsRanked, Fits, Passes};
 ghost use Rattle.fir_flat.specs.Signals.{seen_entry, seen_opening};
 ghost use Rattle.fir_flat.specs.Writing.{CountsSignals};
 
@@ -101,6 +101,7 @@ pub fn flatten(alloc: Global, circuit: &Circuit) -> Result<Elab, FlatFault>
     requires ranked { (rank : ℕ → ℕ) × IsRanked rank circuit.now }
     requires main { place_of circuit.now.modules circuit.now.name < length circuit.now.modules }
     ensures ok { IfOk result (λ e. e ≡ elab circuit.now) }
+    ensures fits { IfOk result (λ e. Fits circuit.now) }
     ensures err { IfErr result (λ fault. Passes circuit.now fault) }
 {
     check_limits(alloc, circuit)?;

@@ -6,10 +6,11 @@
 //! `elab`, with its counts. `Measures` and `Limits` have the counts without building anything, and
 //! `the_counts_are_exact` says that both agree.
 //!
-//! The code judges the three limits by those counts, and has the elaboration's parts up to one
-//! instance: `parts` and `partners` are ground parts of types, `resolve` and `worth` expressions,
-//! `statements` and `writing` the statements of a body, `signals` and `listing` what it declares,
-//! `own_body` and `own_entries` those of an instance itself. Each is the definition's own, exactly.
+//! The code judges the three limits by those counts, and builds what `elab` says, exactly: `parts` and
+//! `partners` are ground parts of types, `resolve` and `worth` expressions, `statements` and `writing`
+//! the statements of a body, `signals` and `listing` what it declares, `own_body` and `own_entries`
+//! those of an instance itself, and `flattening` goes through all instances. Its [`flatten`] is the
+//! elaboration of a circuit within the limits.
 #![tactic(auto)]
 
 mod counts;

@@ -1,5 +1,4 @@
 use Rattle.std.proofs.Common.{◌≡◌, ◌++◌, ◌∷◌, [], ap, refl, rules}
-use Rattle.fir_flat.specs.Elaboration.{made}
 use Rattle.fir_flat.specs.Signals.{seen_entry}
 use Rattle.fir_flat.proofs.CourseFacts.{made_expands}
 use Rattle.fir_flat.proofs.flattening.Course.expand.Goals as goal
