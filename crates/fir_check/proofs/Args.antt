@@ -4,6 +4,7 @@ use Rattle.std.specs.List.{list_any}
 use Rattle.std.proofs.Math.Seq.{take-suc}
 use Rattle.std.proofs.lemmas.Bool.Decides.{nat_tests}
 use Rattle.std.proofs.Math.Dec.{eqb-suc-zero}
+use Rattle.fir_ast.specs.declared.tree.Ty.{Ty}
 use Rattle.fir_ast.specs.declared.tree.Expr.{Expr}
 use Rattle.fir_ast.specs.declared.tree.VerifKind.{VerifKind}
 use Rattle.fir_ast.specs.declared.tree.VerifKind.TheVariants.{Printf, Stop, Assert, Assume, Cover}
@@ -116,23 +117,23 @@ wrong_last kind ms m k l =
     ∙ ap (λ j. wrong_verif kind ms || misplaced j n m) l
 
 -- what a judgement says of an expression
-pub record ArgTold (known : List Known) (e : Expr) (j : Judgement) : Type 0 where
-  pub meaning : option_map meant j.meaning ≡ meaning_of known e
+pub record ArgTold (T : List Ty) (known : List Known) (e : Expr) (j : Judgement) : Type 0 where
+  pub meaning : option_map (meant T) j.meaning ≡ meaning_of known e
   pub unknown : j.unknown ≡ somewhere unknown_level known e
   pub wrong : j.wrong ≡ somewhere wrong_level known e
   pub clock : j.clock ≡ somewhere clock_level known e
 
-args_last : (kind : VerifKind) (known : List Known) (xs : List Expr) (k : ℕ) (e : Expr) (a : Args) (j : Judgement) → length xs ≡ k → ArgsTold kind known xs a → ArgTold known e j
-    → ArgsTold kind known (xs ++ e ∷ []) (with_arg k (operands_before kind) a j)
-args_last kind known xs k e a j l g h =
+args_last : (T : List Ty) → (kind : VerifKind) (known : List Known) (xs : List Expr) (k : ℕ) (e : Expr) (a : Args) (j : Judgement) → length xs ≡ k → ArgsTold kind known xs a → ArgTold T known e j
+    → ArgsTold kind known (xs ++ e ∷ []) (with_arg T k (operands_before kind) a j)
+args_last T kind known xs k e a j l g h =
     let n : ℕ = operands_before kind in
     record {
       unknown = ap (λ b. b || j.unknown) g.unknown ∙ ap (λ b. list_any (somewhere unknown_level known) xs || b) h.unknown ∙ sym (any_last (somewhere unknown_level known) xs e);
       wrong = ap (λ b. b || j.wrong) g.wrong ∙ ap (λ b. list_any (somewhere wrong_level known) xs || b) h.wrong ∙ sym (any_last (somewhere wrong_level known) xs e);
       clock = ap (λ b. b || j.clock) g.clock ∙ ap (λ b. list_any (somewhere clock_level known) xs || b) h.clock ∙ sym (any_last (somewhere clock_level known) xs e);
-      unfit = ap (λ b. b || misplaced k n (option_map meant j.meaning)) g.unfit ∙ ap (λ m. wrong_verif kind (map (meaning_of known) xs) || misplaced k n m) h.meaning
+      unfit = ap (λ b. b || misplaced k n (option_map (meant T) j.meaning)) g.unfit ∙ ap (λ m. wrong_verif kind (map (meaning_of known) xs) || misplaced k n m) h.meaning
           ∙ sym (wrong_last kind (map (meaning_of known) xs) (meaning_of known e) k (map_length (meaning_of known) xs ∙ l)) ∙ ap (wrong_verif kind) (sym (map_last (meaning_of known) xs e));
-      clocked = ap (λ b. b || (nat_le n k && fails has_no_clock (option_map meant j.meaning))) g.clocked
+      clocked = ap (λ b. b || (nat_le n k && fails has_no_clock (option_map (meant T) j.meaning))) g.clocked
           ∙ ap (λ m. list_any (λ x. fails has_no_clock (meaning_of known x)) (drop n xs) || (nat_le n k && fails has_no_clock m)) h.meaning
           ∙ ap (λ i. list_any (λ x. fails has_no_clock (meaning_of known x)) (drop n xs) || (nat_le n i && fails has_no_clock (meaning_of known e))) (sym l)
           ∙ sym (any_drop (λ x. fails has_no_clock (meaning_of known x)) n xs e);
@@ -150,12 +151,12 @@ args_none Assert known a e = rw e (record { unknown = refl; wrong = refl; clock 
 args_none Assume known a e = rw e (record { unknown = refl; wrong = refl; clock = refl; unfit = refl; clocked = refl })
 args_none Cover known a e = rw e (record { unknown = refl; wrong = refl; clock = refl; unfit = refl; clocked = refl })
 
-pub args_next : (kind : VerifKind) (known : List Known) (es : List Expr) (k n : ℕ) (e : Expr) (a b : Args) (j : Judgement) → k < length es → e ≡ get_or es k e → n ≡ operands_before kind
-    → ArgsTold kind known (take k es) a → ArgTold known e j → b ≡ with_arg k n a j → ArgsTold kind known (take (k + 1) es) b
-args_next kind known es k n e a b j w i o g h q =
+pub args_next : (T : List Ty) → (kind : VerifKind) (known : List Known) (es : List Expr) (k n : ℕ) (e : Expr) (a b : Args) (j : Judgement) → k < length es → e ≡ get_or es k e → n ≡ operands_before kind
+    → ArgsTold kind known (take k es) a → ArgTold T known e j → b ≡ with_arg T k n a j → ArgsTold kind known (take (k + 1) es) b
+args_next T kind known es k n e a b j w i o g h q =
     let t : take (k + 1) es ≡ take k es ++ e ∷ [] = ap (λ x. take x es) (add-one k) ∙ take-suc es k e w ∙ ap (λ x. take k es ++ x ∷ []) (sym i) in
-    subst (λ (x : Args). ArgsTold kind known (take (k + 1) es) x) (sym (q ∙ ap (λ x. with_arg k x a j) o))
-    (subst (λ (xs : List Expr). ArgsTold kind known xs (with_arg k (operands_before kind) a j)) (sym t) (args_last kind known (take k es) k e a j (take_length es k w) g h))
+    subst (λ (x : Args). ArgsTold kind known (take (k + 1) es) x) (sym (q ∙ ap (λ x. with_arg T k x a j) o))
+    (subst (λ (xs : List Expr). ArgsTold kind known xs (with_arg T k (operands_before kind) a j)) (sym t) (args_last T kind known (take k es) k e a j (take_length es k w) g h))
 
 take_all : {X : Type 0} (xs : List X) (k : ℕ) → length xs ≤ k → take k xs ≡ xs
 take_all [] zero h = refl

@@ -5,6 +5,7 @@ use Rattle.std.proofs.Math.Seq.{take-suc}
 use Rattle.std.proofs.Math.Dec.{eqb-suc-zero, eqb-zero-suc, eqb-suc-suc}
 use Rattle.tb_base.specs.declared.op.Op.{Op}
 use Rattle.tb_base.specs.declared.op.Op.TheVariants.{Add, Sub, Mul, Div, Rem, Lt, Leq, Gt, Geq, Eq, Neq, Pad, AsUInt, AsSInt, Shl, Shr, Dshl, Dshr, Cvt, Neg, Not, And, Or, Xor, Andr, Orr, Xorr, Cat, Bits, Head, Tail, Mux}
+use Rattle.fir_ast.specs.declared.tree.Ty.{Ty}
 use Rattle.fir_ast.specs.declared.tree.Expr.{Expr}
 use Rattle.fir_ast.specs.declared.tree.Expr.TheVariants as expr
 use Rattle.fir_ast.specs.declared.tree.Expr.TheVariants.{rolls-Index}
@@ -21,8 +22,8 @@ use Rattle.fir_check.proofs.Names.{or_false}
 use Rattle.fir_check.proofs.Bundles.{any_map}
 
 -- what a judgement holds
-pub record Holds (j : Judgement) (meaning : Option Thing) (unknown wrong clock : Bool) : Type 0 where
-  pub meaning_is : meaning_seen j ≡ meaning
+pub record Holds (T : List Ty) (j : Judgement) (meaning : Option Thing) (unknown wrong clock : Bool) : Type 0 where
+  pub meaning_is : meaning_seen T j ≡ meaning
   pub unknown_is : j.unknown ≡ unknown
   pub wrong_is : j.wrong ≡ wrong
   pub clock_is : j.clock ≡ clock
@@ -101,63 +102,63 @@ clock_is Tail known ms nums = refl
 clock_is Mux known ms nums = refl
 
 -- what is gathered of what the operands stand for
-pub record Given (ms : List (Option Thing)) (o : Operands) : Type 0 where
-  pub first : option_map meant o.first ≡ operand 0 ms
-  pub second : option_map meant o.second ≡ operand 1 ms
-  pub third : option_map meant o.third ≡ operand 2 ms
+pub record Given (T : List Ty) (ms : List (Option Thing)) (o : Operands) : Type 0 where
+  pub first : option_map (meant T) o.first ≡ operand 0 ms
+  pub second : option_map (meant T) o.second ≡ operand 1 ms
+  pub third : option_map (meant T) o.third ≡ operand 2 ms
   pub all_known : o.all_known ≡ list_all is_some ms
   pub unfit : o.unfit ≡ list_any (fails is_operand) ms
 
-mux_wrong : (ms : List (Option Thing)) (o : Operands) → Given ms o
-    → wrong_mux (operand 0 ms) (operand 1 ms) (operand 2 ms) ≡ wrong_mux (option_map meant o.first) (option_map meant o.second) (option_map meant o.third)
-mux_wrong ms o g =
+mux_wrong : (T : List Ty) → (ms : List (Option Thing)) (o : Operands) → Given T ms o
+    → wrong_mux (operand 0 ms) (operand 1 ms) (operand 2 ms) ≡ wrong_mux (option_map (meant T) o.first) (option_map (meant T) o.second) (option_map (meant T) o.third)
+mux_wrong T ms o g =
     ap (λ a. wrong_mux a (operand 1 ms) (operand 2 ms)) (sym g.first)
-    ∙ ap (λ b. wrong_mux (option_map meant o.first) b (operand 2 ms)) (sym g.second)
-    ∙ ap (λ c. wrong_mux (option_map meant o.first) (option_map meant o.second) c) (sym g.third)
+    ∙ ap (λ b. wrong_mux (option_map (meant T) o.first) b (operand 2 ms)) (sym g.second)
+    ∙ ap (λ c. wrong_mux (option_map (meant T) o.first) (option_map (meant T) o.second) c) (sym g.third)
 
-other_wrong : (op : Op) (ms : List (Option Thing)) (o : Operands) → Given ms o
+other_wrong : (T : List Ty) → (op : Op) (ms : List (Option Thing)) (o : Operands) → Given T ms o
     → (list_any (fails is_operand) ms || (list_all is_some ms && misfit op (operand 0 ms) (operand 1 ms) (operand 2 ms)))
-    ≡ (o.unfit || (o.all_known && misfit op (option_map meant o.first) (option_map meant o.second) (option_map meant o.third)))
-other_wrong op ms o g =
+    ≡ (o.unfit || (o.all_known && misfit op (option_map (meant T) o.first) (option_map (meant T) o.second) (option_map (meant T) o.third)))
+other_wrong T op ms o g =
     ap (λ b. b || (list_all is_some ms && misfit op (operand 0 ms) (operand 1 ms) (operand 2 ms))) (sym g.unfit)
     ∙ ap (λ b. o.unfit || (b && misfit op (operand 0 ms) (operand 1 ms) (operand 2 ms))) (sym g.all_known)
     ∙ ap (λ a. o.unfit || (o.all_known && misfit op a (operand 1 ms) (operand 2 ms))) (sym g.first)
-    ∙ ap (λ a. o.unfit || (o.all_known && misfit op (option_map meant o.first) a (operand 2 ms))) (sym g.second)
-    ∙ ap (λ a. o.unfit || (o.all_known && misfit op (option_map meant o.first) (option_map meant o.second) a)) (sym g.third)
+    ∙ ap (λ a. o.unfit || (o.all_known && misfit op (option_map (meant T) o.first) a (operand 2 ms))) (sym g.second)
+    ∙ ap (λ a. o.unfit || (o.all_known && misfit op (option_map (meant T) o.first) (option_map (meant T) o.second) a)) (sym g.third)
 
-wrong_is : (op : Op) (ms : List (Option Thing)) (o : Operands) → Given ms o → wrong_operands op ms ≡ wrong_given op o
-wrong_is Mux ms o g = mux_wrong ms o g
-wrong_is Add ms o g = other_wrong Add ms o g
-wrong_is Sub ms o g = other_wrong Sub ms o g
-wrong_is Mul ms o g = other_wrong Mul ms o g
-wrong_is Div ms o g = other_wrong Div ms o g
-wrong_is Rem ms o g = other_wrong Rem ms o g
-wrong_is Lt ms o g = other_wrong Lt ms o g
-wrong_is Leq ms o g = other_wrong Leq ms o g
-wrong_is Gt ms o g = other_wrong Gt ms o g
-wrong_is Geq ms o g = other_wrong Geq ms o g
-wrong_is Eq ms o g = other_wrong Eq ms o g
-wrong_is Neq ms o g = other_wrong Neq ms o g
-wrong_is Pad ms o g = other_wrong Pad ms o g
-wrong_is AsUInt ms o g = other_wrong AsUInt ms o g
-wrong_is AsSInt ms o g = other_wrong AsSInt ms o g
-wrong_is Shl ms o g = other_wrong Shl ms o g
-wrong_is Shr ms o g = other_wrong Shr ms o g
-wrong_is Dshl ms o g = other_wrong Dshl ms o g
-wrong_is Dshr ms o g = other_wrong Dshr ms o g
-wrong_is Cvt ms o g = other_wrong Cvt ms o g
-wrong_is Neg ms o g = other_wrong Neg ms o g
-wrong_is Not ms o g = other_wrong Not ms o g
-wrong_is And ms o g = other_wrong And ms o g
-wrong_is Or ms o g = other_wrong Or ms o g
-wrong_is Xor ms o g = other_wrong Xor ms o g
-wrong_is Andr ms o g = other_wrong Andr ms o g
-wrong_is Orr ms o g = other_wrong Orr ms o g
-wrong_is Xorr ms o g = other_wrong Xorr ms o g
-wrong_is Cat ms o g = other_wrong Cat ms o g
-wrong_is Bits ms o g = other_wrong Bits ms o g
-wrong_is Head ms o g = other_wrong Head ms o g
-wrong_is Tail ms o g = other_wrong Tail ms o g
+wrong_is : (T : List Ty) → (op : Op) (ms : List (Option Thing)) (o : Operands) → Given T ms o → wrong_operands op ms ≡ wrong_given T op o
+wrong_is T Mux ms o g = mux_wrong T ms o g
+wrong_is T Add ms o g = other_wrong T Add ms o g
+wrong_is T Sub ms o g = other_wrong T Sub ms o g
+wrong_is T Mul ms o g = other_wrong T Mul ms o g
+wrong_is T Div ms o g = other_wrong T Div ms o g
+wrong_is T Rem ms o g = other_wrong T Rem ms o g
+wrong_is T Lt ms o g = other_wrong T Lt ms o g
+wrong_is T Leq ms o g = other_wrong T Leq ms o g
+wrong_is T Gt ms o g = other_wrong T Gt ms o g
+wrong_is T Geq ms o g = other_wrong T Geq ms o g
+wrong_is T Eq ms o g = other_wrong T Eq ms o g
+wrong_is T Neq ms o g = other_wrong T Neq ms o g
+wrong_is T Pad ms o g = other_wrong T Pad ms o g
+wrong_is T AsUInt ms o g = other_wrong T AsUInt ms o g
+wrong_is T AsSInt ms o g = other_wrong T AsSInt ms o g
+wrong_is T Shl ms o g = other_wrong T Shl ms o g
+wrong_is T Shr ms o g = other_wrong T Shr ms o g
+wrong_is T Dshl ms o g = other_wrong T Dshl ms o g
+wrong_is T Dshr ms o g = other_wrong T Dshr ms o g
+wrong_is T Cvt ms o g = other_wrong T Cvt ms o g
+wrong_is T Neg ms o g = other_wrong T Neg ms o g
+wrong_is T Not ms o g = other_wrong T Not ms o g
+wrong_is T And ms o g = other_wrong T And ms o g
+wrong_is T Or ms o g = other_wrong T Or ms o g
+wrong_is T Xor ms o g = other_wrong T Xor ms o g
+wrong_is T Andr ms o g = other_wrong T Andr ms o g
+wrong_is T Orr ms o g = other_wrong T Orr ms o g
+wrong_is T Xorr ms o g = other_wrong T Xorr ms o g
+wrong_is T Cat ms o g = other_wrong T Cat ms o g
+wrong_is T Bits ms o g = other_wrong T Bits ms o g
+wrong_is T Head ms o g = other_wrong T Head ms o g
+wrong_is T Tail ms o g = other_wrong T Tail ms o g
 
 map_twice : {X Y Z : Type 0} (f : Y → Z) (g : X → Y) (xs : List X) → map f (map g xs) ≡ map (λ x. f (g x)) xs
 map_twice f g [] = refl
@@ -174,20 +175,20 @@ apply_under rule known op es nums e =
     ∙ ap (λ b. verdict (applied_thing op (map (meaning_of known) es)) (rule known (Apply op (map (meaning_of known) es) nums) || b))
     (any_map (λ (a : Judged). a.broken) (judged rule known) es)
 
-pub judges_apply : (known : List Known) (op : Op) (es : List Expr) (nums : List ℕ) (o : Operands) (j : Judgement) → Gathers known es o
-    → Holds j (applied_given op (option_map meant o.first) (option_map meant o.second)) o.unknown (wrong_given op o || o.wrong) (clock_given op o.clocked || o.clock)
-    → Judges known (expr.Apply op es nums) j
-judges_apply known op es nums o j g s =
+pub judges_apply : (T : List Ty) → (known : List Known) (op : Op) (es : List Expr) (nums : List ℕ) (o : Operands) (j : Judgement) → Gathers T known es o
+    → Holds T j (applied_given op (option_map (meant T) o.first) (option_map (meant T) o.second)) o.unknown (wrong_given T op o || o.wrong) (clock_given op o.clocked || o.clock)
+    → Judges T known (expr.Apply op es nums) j
+judges_apply T known op es nums o j g s =
     let ms : List (Option Thing) = map (meaning_of known) es in
-    let m : meaning_seen j ≡ applied_thing op ms =
-    s.meaning_is ∙ ap (λ a. applied_given op a (option_map meant o.second)) g.first ∙ ap (applied_given op (operand 0 ms)) g.second ∙ sym (applied_is op ms) in
+    let m : meaning_seen T j ≡ applied_thing op ms =
+    s.meaning_is ∙ ap (λ a. applied_given op a (option_map (meant T) o.second)) g.first ∙ ap (applied_given op (operand 0 ms)) g.second ∙ sym (applied_is op ms) in
     record {
       meaning = apply_under no_rule known op es nums refl ∙ verdict_same _ _ _ _ m (sym g.sound);
       unknown = apply_under unknown_level known op es nums g.under_unknown ∙ verdict_same _ _ _ _ m (s.unknown_is ∙ g.unknown);
       wrong = apply_under wrong_level known op es nums g.under_wrong
           ∙ verdict_same _ _ _ _ m
           (s.wrong_is
-          ∙ ap (λ b. b || o.wrong) (sym (wrong_is op ms o (record { first = g.first; second = g.second; third = g.third; all_known = g.all_known; unfit = g.unfit })))
+          ∙ ap (λ b. b || o.wrong) (sym (wrong_is T op ms o (record { first = g.first; second = g.second; third = g.third; all_known = g.all_known; unfit = g.unfit })))
           ∙ ap (λ b. wrong_operands op ms || b) g.wrong);
       clock = apply_under clock_level known op es nums g.under_clock
           ∙ verdict_same _ _ _ _ m
@@ -229,20 +230,20 @@ operand_last (suc n) [] m = sym (ap (λ b. if b then m else None) (eqb-zero-suc 
 operand_last zero (x ∷ ms) m = sym (ap (λ b. if b then m else x) (eqb-suc-zero (length ms)))
 operand_last (suc n) (x ∷ ms) m = operand_last n ms m ∙ sym (ap (λ b. if b then m else operand n ms) (eqb-suc-suc (length ms) n))
 
-seen_choice : (b : Bool) (x y : Option LentThing) → option_map meant (if b then x else y) ≡ (if b then option_map meant x else option_map meant y)
-seen_choice true x y = refl
-seen_choice false x y = refl
+seen_choice : (T : List Ty) → (b : Bool) (x y : Option LentThing) → option_map (meant T) (if b then x else y) ≡ (if b then option_map (meant T) x else option_map (meant T) y)
+seen_choice T true x y = refl
+seen_choice T false x y = refl
 
 map_length : {X Y : Type 0} (f : X → Y) (xs : List X) → length (map f xs) ≡ length xs
 map_length f [] = refl
 map_length f (x ∷ xs) = ap suc (map_length f xs)
 
 -- the n-th operand after one more
-chosen_last : (n k : ℕ) (ms : List (Option Thing)) (m : Option Thing) (x y : Option LentThing) → length ms ≡ k → m ≡ option_map meant x → option_map meant y ≡ operand n ms
-    → option_map meant (if k == n then x else y) ≡ operand n (ms ++ m ∷ [])
-chosen_last n k ms m x y l p q =
-    seen_choice (k == n) x y
-    ∙ ap (λ c. if k == n then c else option_map meant y) (sym p)
+chosen_last : (T : List Ty) → (n k : ℕ) (ms : List (Option Thing)) (m : Option Thing) (x y : Option LentThing) → length ms ≡ k → m ≡ option_map (meant T) x → option_map (meant T) y ≡ operand n ms
+    → option_map (meant T) (if k == n then x else y) ≡ operand n (ms ++ m ∷ [])
+chosen_last T n k ms m x y l p q =
+    seen_choice T (k == n) x y
+    ∙ ap (λ c. if k == n then c else option_map (meant T) y) (sym p)
     ∙ ap (λ c. if k == n then m else c) q
     ∙ ap (λ i. if i == n then m else operand n ms) (sym l)
     ∙ sym (operand_last n ms m)
@@ -256,9 +257,9 @@ clocked_last k (x ∷ ms) m c l p =
     ∙ ap (λ b. b || fails has_no_clock m) p
     ∙ sym (any_last (fails has_no_clock) ms m)
 
-is_some_seen : (x : Option LentThing) → is_some x ≡ is_some (option_map meant x)
-is_some_seen None = refl
-is_some_seen (Some x) = refl
+is_some_seen : (T : List Ty) → (x : Option LentThing) → is_some x ≡ is_some (option_map (meant T) x)
+is_some_seen T None = refl
+is_some_seen T (Some x) = refl
 
 under_last : (rule : LevelRule) (known : List Known) (xs : List Expr) (e : Expr) → map (meaning_under rule known) xs ≡ map (meaning_of known) xs
     → meaning_under rule known e ≡ meaning_of known e → map (meaning_under rule known) (xs ++ e ∷ []) ≡ map (meaning_of known) (xs ++ e ∷ [])
@@ -268,21 +269,21 @@ under_last rule known xs e p q =
     ∙ ap (λ m. map (meaning_of known) xs ++ m ∷ []) q
     ∙ sym (map_last (meaning_of known) xs e)
 
-pub gathers_last : (known : List Known) (xs : List Expr) (k : ℕ) (e : Expr) (o : Operands) (j : Judgement) → length xs ≡ k → Gathers known xs o → Judges known e j
-    → Gathers known (xs ++ e ∷ []) (with_operand k o j)
-gathers_last known xs k e o j l g h =
+pub gathers_last : (T : List Ty) → (known : List Known) (xs : List Expr) (k : ℕ) (e : Expr) (o : Operands) (j : Judgement) → length xs ≡ k → Gathers T known xs o → Judges T known e j
+    → Gathers T known (xs ++ e ∷ []) (with_operand T k o j)
+gathers_last T known xs k e o j l g h =
     let ms : List (Option Thing) = map (meaning_of known) xs in
     let m : Option Thing = meaning_of known e in
     let z : map (meaning_of known) (xs ++ e ∷ []) ≡ ms ++ m ∷ [] = map_last (meaning_of known) xs e in
     let n : length ms ≡ k = map_length (meaning_of known) xs ∙ l in
-    let s : m ≡ meaning_seen j = ap (λ (v : Judged). v.meaning) h.meaning in
+    let s : m ≡ meaning_seen T j = ap (λ (v : Judged). v.meaning) h.meaning in
     record {
-      first = chosen_last 0 k ms m j.meaning o.first n s g.first ∙ ap (operand 0) (sym z);
-      second = chosen_last 1 k ms m j.meaning o.second n s g.second ∙ ap (operand 1) (sym z);
-      third = chosen_last 2 k ms m j.meaning o.third n s g.third ∙ ap (operand 2) (sym z);
-      all_known = ap (λ b. b && is_some j.meaning) g.all_known ∙ ap (λ b. list_all is_some ms && b) (is_some_seen j.meaning ∙ ap is_some (sym s))
+      first = chosen_last T 0 k ms m j.meaning o.first n s g.first ∙ ap (operand 0) (sym z);
+      second = chosen_last T 1 k ms m j.meaning o.second n s g.second ∙ ap (operand 1) (sym z);
+      third = chosen_last T 2 k ms m j.meaning o.third n s g.third ∙ ap (operand 2) (sym z);
+      all_known = ap (λ b. b && is_some j.meaning) g.all_known ∙ ap (λ b. list_all is_some ms && b) (is_some_seen T j.meaning ∙ ap is_some (sym s))
           ∙ sym (all_last is_some ms m) ∙ ap (list_all is_some) (sym z);
-      unfit = ap (λ b. b || fails is_operand (meaning_seen j)) g.unfit ∙ ap (λ x. list_any (fails is_operand) ms || fails is_operand x) (sym s)
+      unfit = ap (λ b. b || fails is_operand (meaning_seen T j)) g.unfit ∙ ap (λ x. list_any (fails is_operand) ms || fails is_operand x) (sym s)
           ∙ sym (any_last (fails is_operand) ms m) ∙ ap (list_any (fails is_operand)) (sym z);
       clocked = ap (λ x. o.clocked || (not (k == 0) && fails has_no_clock x)) (sym s)
           ∙ clocked_last k ms m o.clocked n g.clocked ∙ ap (λ t. list_any (fails has_no_clock) (drop 1 t)) (sym z);
@@ -303,9 +304,9 @@ take_length [] k h = absurd (omega arith)
 take_length (x ∷ xs) zero h = refl
 take_length (x ∷ xs) (suc k) h = ap suc (take_length xs k (omega arith))
 
-pub gathers_next : (known : List Known) (es : List Expr) (k : ℕ) (e : Expr) (o p : Operands) (j : Judgement) → k < length es → e ≡ get_or es k e
-    → Gathers known (take k es) o → Judges known e j → p ≡ with_operand k o j → Gathers known (take (k + 1) es) p
-gathers_next known es k e o p j w i g h q =
+pub gathers_next : (T : List Ty) → (known : List Known) (es : List Expr) (k : ℕ) (e : Expr) (o p : Operands) (j : Judgement) → k < length es → e ≡ get_or es k e
+    → Gathers T known (take k es) o → Judges T known e j → p ≡ with_operand T k o j → Gathers T known (take (k + 1) es) p
+gathers_next T known es k e o p j w i g h q =
     let t : take (k + 1) es ≡ take k es ++ e ∷ [] = ap (λ n. take n es) (add-one k) ∙ take-suc es k e w ∙ ap (λ x. take k es ++ x ∷ []) (sym i) in
-    subst (λ (x : Operands). Gathers known (take (k + 1) es) x) (sym q)
-    (subst (λ (xs : List Expr). Gathers known xs (with_operand k o j)) (sym t) (gathers_last known (take k es) k e o j (take_length es k w) g h))
+    subst (λ (x : Operands). Gathers T known (take (k + 1) es) x) (sym q)
+    (subst (λ (xs : List Expr). Gathers T known xs (with_operand T k o j)) (sym t) (gathers_last T known (take k es) k e o j (take_length es k w) g h))

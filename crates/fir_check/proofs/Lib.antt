@@ -13,12 +13,14 @@ pub mod Trails
 pub mod Named
 pub mod Args
 pub mod Pairs
+pub mod Clocks
 pub mod Heads
 pub mod PortScope
 pub mod Never
 pub mod Whole
 pub mod Walks
 pub mod Walked
+pub mod Noted
 pub mod Bundles
 pub mod Leaves
 pub mod Shapes
@@ -27,3 +29,6 @@ pub mod Repeats
 pub mod Scoping
 pub mod Judging
 pub mod Ranks
+pub mod Numbering
+pub mod TypeRows
+pub mod Alike

@@ -1,13 +1,16 @@
 -- The module of a name and the field of a name, by the number that a table gives it.
-use Rattle.std.proofs.Common.{ℕ, ◌≡◌, ◌+◌, ◌<◌, Bool, true, false, cond, None, Some, option_map, List, [], ◌∷◌, length, map, get_or, refl, sym, ap, ◌∙◌, subst, zero-add}
+use Rattle.std.proofs.Common.{ℕ, zero, suc, arith, ◌≡◌, ◌+◌, ◌<◌, Bool, true, false, cond, None, Some, option_map, List, [], ◌∷◌, length, map, get_or, refl, sym, ap, ◌∙◌, subst, zero-add}
 use Rattle.std.specs.Prelude.{find, bytes_eq}
 use Rattle.std.specs.List.{position_from}
 use Rattle.fir_ast.specs.declared.tree.Ty.{Ty}
+use Rattle.fir_ast.specs.declared.tree.Ty.TheVariants as ty
 use Rattle.fir_ast.specs.declared.tree.Field.{Field}
+use Rattle.fir_check.specs.declared.thing.Thing.{Thing as NumberedThing}
+use Rattle.fir_check.specs.Seen.{type_at, meant}
 use Rattle.fir_ast.specs.declared.tree.Module.{Module}
 use Rattle.std.proofs.lemmas.Option.{slice_get-get_or}
 use Rattle.fir_check.specs.declared.thing.Flow.TheVariants.{Source}
-use Rattle.fir_check.specs.Scopes.{Thing, instance_thing, module_named, ports_type}
+use Rattle.fir_check.specs.Scopes.{instance_thing, module_named, ports_type}
 use Rattle.fir_check.specs.Types.{Slot}
 use Rattle.fir_check.specs.Fields.{field_name, named_slot}
 use Rattle.fir_check.specs.Tables.{number_named, NamesModules, NamesFields}
@@ -15,7 +18,7 @@ use Rattle.fir_check.proofs.ByNumber.{At, at-position, ByName, by_name}
 use Rattle.fir_check.proofs.Names.{map_at, map_length, find_map}
 use Rattle.fir_check.proofs.Shapes.{slot_of}
 
-not_found : {X : Type 0} (p : X → Bool) (i : ℕ) (xs : List X) → position_from p i xs ≡ None → find p xs ≡ None
+pub not_found : {X : Type 0} (p : X → Bool) (i : ℕ) (xs : List X) → position_from p i xs ≡ None → find p xs ≡ None
 not_found p i [] e = refl
 not_found p i (x ∷ xs) e = step (p x) e (not_found p (i + 1) xs)
   where
@@ -30,8 +33,10 @@ pub named_low : (modules : List Module) (table : List (List ℕ × ℕ)) (q : Li
 named_low modules table q k n e = (by_name modules table q k n e).by.low
 
 -- the types of instances stand in the order of the modules
-pub types_low : (modules : List Module) (table : List (List ℕ × ℕ)) (types : List Ty) (q : List ℕ) (k : ℕ) → NamesModules modules table → types ≡ map ports_type modules → number_named q table ≡ Some k → k < length types
-types_low modules table types q k n t e = subst (λ l. k < l) (sym (ap length t ∙ map_length ports_type modules)) (named_low modules table q k n e)
+pub instances_low : (modules : List Module) (table : List (List ℕ × ℕ)) (T : List Ty) (instances : List ℕ) (q : List ℕ) (k : ℕ) → NamesModules modules table
+    → map (type_at T) instances ≡ map ports_type modules → number_named q table ≡ Some k → k < length instances
+instances_low modules table T instances q k n t e =
+    subst (λ l. k < l) (sym (sym (map_length (type_at T) instances) ∙ ap length t ∙ map_length ports_type modules)) (named_low modules table q k n e)
 
 -- what a look-up in the list of modules gives
 pub module_at : (modules : List Module) (table : List (List ℕ × ℕ)) (q : List ℕ) (k : ℕ) (d : Module) → NamesModules modules table → number_named q table ≡ Some k
@@ -40,13 +45,23 @@ module_at modules table q k d n e =
     let b : ByName modules table k q = by_name modules table q k n e in
     sym (slice_get-get_or modules k d b.by.low) ∙ slice_get-get_or modules k b.home b.by.low ∙ ap Some (sym b.by.is) ∙ sym b.by.named ∙ ap (λ x. module_named x modules) b.name
 
+pub any_default : {X : Type 0} (xs : List X) (n : ℕ) (d e : X) → n < length xs → get_or xs n d ≡ get_or xs n e
+any_default [] n d c h = absurd (omega arith)
+any_default (x ∷ xs) zero d c h = refl
+any_default (x ∷ xs) (suc n) d c h = any_default xs n d c (omega arith)
+
 -- what an instance of that module stands for
-pub instance_at : (modules : List Module) (table : List (List ℕ × ℕ)) (types : List Ty) (q : List ℕ) (k : ℕ) (d : Ty) (x : Thing) → NamesModules modules table → types ≡ map ports_type modules
-    → number_named q table ≡ Some k → x ≡ record { ty = get_or types k d; flow = Source; whole = true } → Some x ≡ option_map instance_thing (module_named q modules)
-instance_at modules table types q k d x n t e i =
+pub instance_at : (modules : List Module) (table : List (List ℕ × ℕ)) (T : List Ty) (instances : List ℕ) (q : List ℕ) (k d : ℕ) (x : NumberedThing) → NamesModules modules table
+    → map (type_at T) instances ≡ map ports_type modules → number_named q table ≡ Some k → x ≡ record { number = get_or instances k d; flow = Source; whole = true }
+    → Some (meant T x) ≡ option_map instance_thing (module_named q modules)
+instance_at modules table T instances q k d x n t e w =
+    let p : ℕ = get_or instances k d in
     let b : ByName modules table k q = by_name modules table q k n e in
-    ap Some (i ∙ ap (λ y. record { ty = y; flow = Source; whole = true }) (ap (λ y. get_or y k d) t ∙ map_at ports_type modules k b.home d b.by.low b.by.is))
-    ∙ ap (option_map instance_thing) (sym b.by.named ∙ ap (λ y. module_named y modules) b.name)
+    let l : k < length instances = instances_low modules table T instances q k n t e in
+    let y : type_at T p ≡ ports_type b.home =
+    sym (map_at (type_at T) instances k p (ty.UInt None) l (any_default instances k d p l)) ∙ ap (λ z. get_or z k (ty.UInt None)) t ∙ map_at ports_type modules k b.home (ty.UInt None) b.by.low b.by.is in
+    ap (λ z. Some (meant T z)) w ∙ ap (λ z. Some (record { ty = z; flow = Source; whole = true })) y
+    ∙ ap (option_map instance_thing) (sym b.by.named ∙ ap (λ z. module_named z modules) b.name)
 
 -- the field of a name, by the number that a table gives it
 

@@ -3,9 +3,8 @@ use Rattle.std.proofs.Common.{ℕ, ◌≡◌, ◌+◌, ◌<◌, ◌≤◌, Bool,
 use Rattle.std.specs.Prelude.{bytes_eq}
 use Rattle.std.proofs.Math.Seq.{take-suc}
 use Rattle.fir_ast.specs.declared.tree.Port.{Port}
-use Rattle.fir_ast.specs.declared.tree.Module.{Module}
 use Rattle.fir_check.specs.Names.{is_among, kept, firsts}
-use Rattle.fir_check.specs.Scopes.{Known, is_declared, added, known_name, port_name, port_known, ports_known}
+use Rattle.fir_check.specs.Scopes.{Known, is_declared, added, known_name, port_name, port_known}
 use Rattle.fir_check.proofs.Firsts.{from, from_next, from_end, before, before_among}
 use Rattle.fir_check.proofs.Names.{bytes_same, or_false, or_true}
 
@@ -65,9 +64,8 @@ ports_next ports i p known after h e a l =
     more true = refl
     more false = append_assoc known (port_known p ∷ []) (map port_known (from port_name [] ports (i + 1)))
 
-pub ports_end : (m : Module) (ports : List Port) (i : ℕ) (known : List Known) → ports ≡ m.ports → length ports ≤ i → PortsLeft ports i known → known ≡ ports_known m
-ports_end m ports i known e h l =
-    sym (none known) ∙ ap (λ x. known ++ map port_known x) (sym (from_end port_name [] ports i h)) ∙ l.whole ∙ ap (λ x. map port_known (firsts port_name x)) e
+pub ports_end : (ports : List Port) (i : ℕ) (known : List Known) → length ports ≤ i → PortsLeft ports i known → known ≡ map port_known (firsts port_name ports)
+ports_end ports i known h l = sym (none known) ∙ ap (λ x. known ++ map port_known x) (sym (from_end port_name [] ports i h)) ∙ l.whole
   where
     none : (xs : List Known) → xs ++ [] ≡ xs
     none [] = refl

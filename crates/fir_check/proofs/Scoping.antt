@@ -12,7 +12,8 @@ use Rattle.fir_check.specs.declared.scope.Declared.{Declared}
 use Rattle.fir_check.specs.Names.{is_among, kept, repeated, seconds}
 use Rattle.fir_check.specs.Seen.{meant}
 use Rattle.fir_check.specs.Scopes.{Thing, Known, known_name, is_declared, visible, added, fresh, hide, hidden}
-use Rattle.fir_check.specs.KnownSeen.{known_at, known_seen, closed, closed_at, closed_past}
+use Rattle.fir_ast.specs.declared.tree.Ty.{Ty}
+use Rattle.fir_check.specs.KnownSeen.{facts_seen, known_at, seen, closed, closed_at, closed_past}
 use Rattle.fir_check.proofs.Names.{bytes_turned, differ_among, or_true, or_left, or_right}
 
 abbrev pub Entry : Type 0
@@ -21,13 +22,17 @@ Entry = Vec ℕ Global × Declared
 abbrev pub entry_name : Entry → List ℕ
 entry_name e = e.0.items
 
+-- what is known, where these are the types of the numbers
+abbrev pub known_seen : List Ty → List Entry → List Known
+known_seen T es = seen T (facts_seen es)
+
 -- no name stands twice, nor is one of these
 abbrev pub Distinct : List (List ℕ) → List Entry → Type 0
 Distinct earlier es = repeated entry_name earlier es ≡ []
 
-known_names : (es : List Entry) → map known_name (known_seen es) ≡ map entry_name es
-known_names [] = refl
-known_names (e ∷ es) = ap (λ ns. e.0.items ∷ ns) (known_names es)
+known_names : (T : List Ty) → (es : List Entry) → map known_name (known_seen T es) ≡ map entry_name es
+known_names T [] = refl
+known_names T (e ∷ es) = ap (λ ns. e.0.items ∷ ns) (known_names T es)
 
 looked : (n : List ℕ) (es : List Entry) → is_some (lookup (λ k. pointwise nat_eq n k.items) es) ≡ is_among n (map entry_name es)
 looked n [] = refl
@@ -38,9 +43,9 @@ looked n (e ∷ es) = by (pointwise nat_eq n e.0.items) (looked n es) ∙ ap (λ
     by true i = refl
     by false i = i
 
-pub declared_is : (n : List ℕ) (es : List Entry) (known : List Known) → known_seen es ≡ known
+pub declared_is : (T : List Ty) → (n : List ℕ) (es : List Entry) (known : List Known) → known_seen T es ≡ known
     → is_some (lookup (λ k. pointwise nat_eq n k.items) es) ≡ is_declared n known
-declared_is n es known e = looked n es ∙ ap (is_among n) (sym (known_names es)) ∙ ap (is_declared n) e
+declared_is T n es known e = looked n es ∙ ap (is_among n) (sym (known_names T es)) ∙ ap (is_declared n) e
 
 -- a name that isn't there
 absent : (n : List ℕ) (earlier : List (List ℕ)) (es : List Entry) → Distinct earlier es → is_among n earlier ≡ true → is_among n (map entry_name es) ≡ false
@@ -53,16 +58,16 @@ absent n earlier (e ∷ es) d h =
     by true q r i = cc
     by false q r i = ap (λ b. b || is_among n (map entry_name es)) (bytes_turned e.0.items n ∙ differ_among n e.0.items earlier h q) ∙ i r
 
-none_visible : (n : List ℕ) (es : List Entry) → is_among n (map entry_name es) ≡ false → visible n (known_seen es) ≡ None
-none_visible n [] h = refl
-none_visible n (e ∷ es) h =
-    ap (λ b. cond (b && e.1.open_here) (Some (known_at e.0 e.1)) (visible n (known_seen es))) (or_left (bytes_eq e.0.items n) (is_among n (map entry_name es)) h)
-    ∙ none_visible n es (or_right (bytes_eq e.0.items n) (is_among n (map entry_name es)) h)
+none_visible : (T : List Ty) → (n : List ℕ) (es : List Entry) → is_among n (map entry_name es) ≡ false → visible n (known_seen T es) ≡ None
+none_visible T n [] h = refl
+none_visible T n (e ∷ es) h =
+    ap (λ b. cond (b && e.1.open_here) (Some (known_at T (e.0.items, e.1))) (visible n (known_seen T es))) (or_left (bytes_eq e.0.items n) (is_among n (map entry_name es)) h)
+    ∙ none_visible T n es (or_right (bytes_eq e.0.items n) (is_among n (map entry_name es)) h)
 
 -- what is shown of a fact that a look-up finds
-abbrev pub shown : Option Declared → Option (Option Thing)
-shown None = None
-shown (Some d) = if d.open_here then Some (option_map meant d.meaning) else None
+abbrev pub shown : (T : List Ty) → Option Declared → Option (Option Thing)
+shown T None = None
+shown T (Some d) = if d.open_here then Some (option_map (meant T) d.meaning) else None
 
 abbrev pub meaning_shown : List ℕ → List Known → Option (Option Thing)
 meaning_shown n known = option_map (λ k. k.meaning) (visible n known)
@@ -74,38 +79,38 @@ tail_distinct earlier e es d = by (is_among e.0.items earlier) d
     by true r = cc
     by false r = r
 
-visible_entry : (n : List ℕ) (earlier : List (List ℕ)) (es : List Entry) → Distinct earlier es
-    → meaning_shown n (known_seen es) ≡ shown (lookup (λ k. pointwise nat_eq n k.items) es)
-visible_entry n earlier [] d = refl
-visible_entry n earlier (e ∷ es) d =
+visible_entry : (T : List Ty) → (n : List ℕ) (earlier : List (List ℕ)) (es : List Entry) → Distinct earlier es
+    → meaning_shown n (known_seen T es) ≡ shown T (lookup (λ k. pointwise nat_eq n k.items) es)
+visible_entry T n earlier [] d = refl
+visible_entry T n earlier (e ∷ es) d =
     by (bytes_eq e.0.items n) e.1.open_here refl refl
-    (λ q. none_visible n es (absent n (e.0.items ∷ earlier) es (tail_distinct earlier e es d) (ap (λ b. b || is_among n earlier) q)))
-    (visible_entry n (e.0.items ∷ earlier) es (tail_distinct earlier e es d))
-    ∙ ap (λ b. shown (cond b (Some e.1) (lookup (λ k. pointwise nat_eq n k.items) es))) (bytes_turned e.0.items n)
+    (λ q. none_visible T n es (absent n (e.0.items ∷ earlier) es (tail_distinct earlier e es d) (ap (λ b. b || is_among n earlier) q)))
+    (visible_entry T n (e.0.items ∷ earlier) es (tail_distinct earlier e es d))
+    ∙ ap (λ b. shown T (cond b (Some e.1) (lookup (λ k. pointwise nat_eq n k.items) es))) (bytes_turned e.0.items n)
   where
-    by : (b o : Bool) → bytes_eq e.0.items n ≡ b → e.1.open_here ≡ o → (bytes_eq e.0.items n ≡ true → visible n (known_seen es) ≡ None)
-        → meaning_shown n (known_seen es) ≡ shown (lookup (λ k. pointwise nat_eq n k.items) es)
-        → option_map (λ k. k.meaning) (cond (bytes_eq e.0.items n && e.1.open_here) (Some (known_at e.0 e.1)) (visible n (known_seen es)))
-        ≡ shown (cond (bytes_eq e.0.items n) (Some e.1) (lookup (λ k. pointwise nat_eq n k.items) es))
+    by : (b o : Bool) → bytes_eq e.0.items n ≡ b → e.1.open_here ≡ o → (bytes_eq e.0.items n ≡ true → visible n (known_seen T es) ≡ None)
+        → meaning_shown n (known_seen T es) ≡ shown T (lookup (λ k. pointwise nat_eq n k.items) es)
+        → option_map (λ k. k.meaning) (cond (bytes_eq e.0.items n && e.1.open_here) (Some (known_at T (e.0.items, e.1))) (visible n (known_seen T es)))
+        ≡ shown T (cond (bytes_eq e.0.items n) (Some e.1) (lookup (λ k. pointwise nat_eq n k.items) es))
     by true true q p z i =
-        ap (λ b. option_map (λ k. k.meaning) (cond (b && e.1.open_here) (Some (known_at e.0 e.1)) (visible n (known_seen es)))) q
-        ∙ ap (λ b. option_map (λ k. k.meaning) (cond b (Some (known_at e.0 e.1)) (visible n (known_seen es)))) p
-        ∙ sym (ap (λ b. shown (cond b (Some e.1) (lookup (λ k. pointwise nat_eq n k.items) es))) q
-        ∙ ap (λ b. if b then Some (option_map meant e.1.meaning) else None) p)
+        ap (λ b. option_map (λ k. k.meaning) (cond (b && e.1.open_here) (Some (known_at T (e.0.items, e.1))) (visible n (known_seen T es)))) q
+        ∙ ap (λ b. option_map (λ k. k.meaning) (cond b (Some (known_at T (e.0.items, e.1))) (visible n (known_seen T es)))) p
+        ∙ sym (ap (λ b. shown T (cond b (Some e.1) (lookup (λ k. pointwise nat_eq n k.items) es))) q
+        ∙ ap (λ b. if b then Some (option_map (meant T) e.1.meaning) else None) p)
     by true false q p z i =
-        ap (λ b. option_map (λ k. k.meaning) (cond (b && e.1.open_here) (Some (known_at e.0 e.1)) (visible n (known_seen es)))) q
-        ∙ ap (λ b. option_map (λ k. k.meaning) (cond b (Some (known_at e.0 e.1)) (visible n (known_seen es)))) p
+        ap (λ b. option_map (λ k. k.meaning) (cond (b && e.1.open_here) (Some (known_at T (e.0.items, e.1))) (visible n (known_seen T es)))) q
+        ∙ ap (λ b. option_map (λ k. k.meaning) (cond b (Some (known_at T (e.0.items, e.1))) (visible n (known_seen T es)))) p
         ∙ ap (option_map (λ k. k.meaning)) (z q)
-        ∙ sym (ap (λ b. shown (cond b (Some e.1) (lookup (λ k. pointwise nat_eq n k.items) es))) q
-        ∙ ap (λ b. if b then Some (option_map meant e.1.meaning) else None) p)
+        ∙ sym (ap (λ b. shown T (cond b (Some e.1) (lookup (λ k. pointwise nat_eq n k.items) es))) q
+        ∙ ap (λ b. if b then Some (option_map (meant T) e.1.meaning) else None) p)
     by false o q p z i =
-        ap (λ b. option_map (λ k. k.meaning) (cond (b && e.1.open_here) (Some (known_at e.0 e.1)) (visible n (known_seen es)))) q
+        ap (λ b. option_map (λ k. k.meaning) (cond (b && e.1.open_here) (Some (known_at T (e.0.items, e.1))) (visible n (known_seen T es)))) q
         ∙ i
-        ∙ sym (ap (λ b. shown (cond b (Some e.1) (lookup (λ k. pointwise nat_eq n k.items) es))) q)
+        ∙ sym (ap (λ b. shown T (cond b (Some e.1) (lookup (λ k. pointwise nat_eq n k.items) es))) q)
 
-pub visible_is : (n : List ℕ) (es : List Entry) (known : List Known) (r : Option (Bor Declared)) (d : Option Declared) → known_seen es ≡ known → seconds entry_name es ≡ []
-    → option_copied r ≡ lookup (λ k. pointwise nat_eq n k.items) es → option_copied r ≡ d → shown d ≡ meaning_shown n known
-visible_is n es known r d e u g p = ap shown (sym p ∙ g) ∙ sym (visible_entry n [] es u) ∙ ap (meaning_shown n) e
+pub visible_is : (T : List Ty) → (n : List ℕ) (es : List Entry) (known : List Known) (r : Option (Bor Declared)) (d : Option Declared) → known_seen T es ≡ known → seconds entry_name es ≡ []
+    → option_copied r ≡ lookup (λ k. pointwise nat_eq n k.items) es → option_copied r ≡ d → shown T d ≡ meaning_shown n known
+visible_is T n es known r d e u g p = ap (shown T) (sym p ∙ g) ∙ sym (visible_entry T n [] es u) ∙ ap (meaning_shown n) e
 
 -- a further name
 
@@ -120,9 +125,9 @@ inserted k d (e ∷ es) h =
     (bytes_turned k.items e.0.items ∙ or_left (bytes_eq e.0.items k.items) (is_among k.items (map entry_name es)) h)
     ∙ ap (λ t. e ∷ t) (inserted k d es (or_right (bytes_eq e.0.items k.items) (is_among k.items (map entry_name es)) h))
 
-seen_last : (es : List Entry) (k : Vec ℕ Global) (d : Declared) → known_seen (es ++ (k, d) ∷ []) ≡ known_seen es ++ known_at k d ∷ []
-seen_last [] k d = refl
-seen_last (e ∷ es) k d = ap (λ t. known_at e.0 e.1 ∷ t) (seen_last es k d)
+seen_last : (T : List Ty) → (es : List Entry) (k : Vec ℕ Global) (d : Declared) → known_seen T (es ++ (k, d) ∷ []) ≡ known_seen T es ++ known_at T (k.items, d) ∷ []
+seen_last T [] k d = refl
+seen_last T (e ∷ es) k d = ap (λ t. known_at T (e.0.items, e.1) ∷ t) (seen_last T es k d)
 
 distinct_last : (earlier : List (List ℕ)) (es : List Entry) (x : Entry) → Distinct earlier es → is_among x.0.items earlier ≡ false
     → is_among x.0.items (map entry_name es) ≡ false → Distinct earlier (es ++ x ∷ [])
@@ -151,18 +156,18 @@ pub came_distinct : (es fs : List Entry) (n : List ℕ) (k : Vec ℕ Global) (d 
 came_distinct es fs n k d c u =
     ap (seconds entry_name) (came_last es fs n k d c) ∙ distinct_last [] es (k, d) u refl (ap (λ m. is_among m (map entry_name es)) c.key ∙ c.new)
 
-pub came_added : (es fs : List Entry) (n : List ℕ) (k : Vec ℕ Global) (d : Declared) (known : List Known) → Came es fs n k d → known_seen es ≡ known → d.open_here ≡ true
-    → known_seen fs ≡ added (fresh n (option_map meant d.meaning)) known
-came_added es fs n k d known c e o =
-    ap known_seen (came_last es fs n k d c) ∙ seen_last es k d
-    ∙ ap (λ t. t ++ known_at k d ∷ []) e
-    ∙ ap (λ m. known ++ record { name = m; open_here = d.open_here; meaning = option_map meant d.meaning } ∷ []) c.key
-    ∙ ap (λ b. known ++ record { name = n; open_here = b; meaning = option_map meant d.meaning } ∷ []) o
-    ∙ sym (ap (λ b. if b then known else known ++ fresh n (option_map meant d.meaning) ∷ []) (sym (ap (is_declared n) e) ∙ ap (is_among n) (known_names es) ∙ c.new))
+pub came_added : (T : List Ty) → (es fs : List Entry) (n : List ℕ) (k : Vec ℕ Global) (d : Declared) (known : List Known) → Came es fs n k d → known_seen T es ≡ known → d.open_here ≡ true
+    → known_seen T fs ≡ added (fresh n (option_map (meant T) d.meaning)) known
+came_added T es fs n k d known c e o =
+    ap (known_seen T) (came_last es fs n k d c) ∙ seen_last T es k d
+    ∙ ap (λ t. t ++ known_at T (k.items, d) ∷ []) e
+    ∙ ap (λ m. known ++ record { name = m; open_here = d.open_here; meaning = option_map (meant T) d.meaning } ∷ []) c.key
+    ∙ ap (λ b. known ++ record { name = n; open_here = b; meaning = option_map (meant T) d.meaning } ∷ []) o
+    ∙ sym (ap (λ b. if b then known else known ++ fresh n (option_map (meant T) d.meaning) ∷ []) (sym (ap (is_declared n) e) ∙ ap (is_among n) (known_names T es) ∙ c.new))
 
-pub taken_added : (n : List ℕ) (m : Option Thing) (es : List Entry) (known : List Known) (b : Bool) → known_seen es ≡ known
+pub taken_added : (T : List Ty) → (n : List ℕ) (m : Option Thing) (es : List Entry) (known : List Known) (b : Bool) → known_seen T es ≡ known
     → b ≡ is_some (lookup (λ k. pointwise nat_eq n k.items) es) → b ≡ true → known ≡ added (fresh n m) known
-taken_added n m es known b e p q = sym (ap (λ t. if t then known else known ++ fresh n m ∷ []) (sym (declared_is n es known e) ∙ sym p ∙ q))
+taken_added T n m es known b e p q = sym (ap (λ t. if t then known else known ++ fresh n m ∷ []) (sym (declared_is T n es known e) ∙ sym p ∙ q))
 
 -- marks
 
@@ -221,14 +226,11 @@ past_distinct earlier (e ∷ es) (suc n) d = by (is_among e.0.items earlier) d (
     by true r i = cc
     by false r i = i r
 
-pub past_hidden : (es : List Entry) (n : ℕ) → known_seen (closed_past n es) ≡ hide n (known_seen es)
-past_hidden [] n = refl
-past_hidden (e ∷ es) zero = ap (λ t. hidden (known_at e.0 e.1) ∷ t) (past_hidden es zero)
-past_hidden (e ∷ es) (suc n) = ap (λ t. known_at e.0 e.1 ∷ t) (past_hidden es n)
+pub past_hidden : (T : List Ty) → (es : List Entry) (n : ℕ) → known_seen T (closed_past n es) ≡ hide n (known_seen T es)
+past_hidden T [] n = refl
+past_hidden T (e ∷ es) zero = ap (λ t. hidden (known_at T (e.0.items, e.1)) ∷ t) (past_hidden T es zero)
+past_hidden T (e ∷ es) (suc n) = ap (λ t. known_at T (e.0.items, e.1) ∷ t) (past_hidden T es n)
 
-pub seen_length : (es : List Entry) (known : List Known) → known_seen es ≡ known → length es ≡ length known
-seen_length es known e = count es ∙ ap length e
-  where
-    count : (fs : List Entry) → length fs ≡ length (known_seen fs)
-    count [] = refl
-    count (f ∷ fs) = ap suc (count fs)
+pub facts_length : (es : List Entry) → length es ≡ length (facts_seen es)
+facts_length [] = refl
+facts_length (e ∷ es) = ap suc (facts_length es)

@@ -39,7 +39,7 @@ line_whatever f g (When l c xs ys) = refl
 line_whatever f g (Skip l) = refl
 line_whatever f g (Verif l v args code text label) = refl
 
-told_rule : (modules : List Module) (m : Module) (k : List Known) (s : Stmt-F Walk) (b : Broken) (r : Rule) → Told modules m k s b → breaks b r ≡ stmt_rule modules m r k s
+pub told_rule : (modules : List Module) (m : Module) (k : List Known) (s : Stmt-F Walk) (b : Broken) (r : Rule) → Told modules m k s b → breaks b r ≡ stmt_rule modules m r k s
 told_rule modules m k s b NoMain w = refl
 told_rule modules m k s b DoubleName w = w.double
 told_rule modules m k s b UnknownName w = w.unknown

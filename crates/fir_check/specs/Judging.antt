@@ -4,6 +4,7 @@ use Rattle.std.specs.List.{list_any, list_all}
 use Rattle.tb_base.specs.Row.{row_signed, signs_fit}
 use Rattle.tb_base.specs.declared.op.Op.{Op}
 use Rattle.tb_base.specs.declared.op.Op.TheVariants.{Mux}
+use Rattle.fir_ast.specs.declared.tree.Ty.{Ty}
 use Rattle.fir_ast.specs.declared.tree.Expr.{Expr}
 use Rattle.fir_check.specs.declared.exprs.Judgement.{Judgement}
 use Rattle.fir_check.specs.declared.exprs.Operands.{Operands}
@@ -19,15 +20,15 @@ no_rule known level = false
 abbrev pub verdict : Option Thing → Bool → Judged
 verdict meaning broken = record { meaning = meaning; broken = broken }
 
-abbrev pub meaning_seen : Judgement → Option Thing
-meaning_seen j = option_map meant j.meaning
+abbrev pub meaning_seen : (T : List Ty) → Judgement → Option Thing
+meaning_seen T j = option_map (meant T) j.meaning
 
 -- what a judgement says of an expression
-pub record Judges (known : List Known) (e : Expr) (j : Judgement) : Type 0 where
-  pub meaning : judged no_rule known e ≡ verdict (meaning_seen j) false
-  pub unknown : judged unknown_level known e ≡ verdict (meaning_seen j) j.unknown
-  pub wrong : judged wrong_level known e ≡ verdict (meaning_seen j) j.wrong
-  pub clock : judged clock_level known e ≡ verdict (meaning_seen j) j.clock
+pub record Judges (T : List Ty) (known : List Known) (e : Expr) (j : Judgement) : Type 0 where
+  pub meaning : judged no_rule known e ≡ verdict (meaning_seen T j) false
+  pub unknown : judged unknown_level known e ≡ verdict (meaning_seen T j) j.unknown
+  pub wrong : judged wrong_level known e ≡ verdict (meaning_seen T j) j.wrong
+  pub clock : judged clock_level known e ≡ verdict (meaning_seen T j) j.clock
 
 abbrev pub is_broken : LevelRule → List Known → Expr → Bool
 is_broken rule known e = (judged rule known e).broken
@@ -36,10 +37,10 @@ abbrev pub meaning_under : LevelRule → List Known → Expr → Option Thing
 meaning_under rule known e = (judged rule known e).meaning
 
 -- what is gathered of operands: of the first three what they stand for, of all what breaks a rule
-pub record Gathers (known : List Known) (es : List Expr) (o : Operands) : Type 0 where
-  pub first : option_map meant o.first ≡ operand 0 (map (meaning_of known) es)
-  pub second : option_map meant o.second ≡ operand 1 (map (meaning_of known) es)
-  pub third : option_map meant o.third ≡ operand 2 (map (meaning_of known) es)
+pub record Gathers (T : List Ty) (known : List Known) (es : List Expr) (o : Operands) : Type 0 where
+  pub first : option_map (meant T) o.first ≡ operand 0 (map (meaning_of known) es)
+  pub second : option_map (meant T) o.second ≡ operand 1 (map (meaning_of known) es)
+  pub third : option_map (meant T) o.third ≡ operand 2 (map (meaning_of known) es)
   pub all_known : o.all_known ≡ list_all is_some (map (meaning_of known) es)
   pub unfit : o.unfit ≡ list_any (fails is_operand) (map (meaning_of known) es)
   pub clocked : o.clocked ≡ list_any (fails has_no_clock) (drop 1 (map (meaning_of known) es))
@@ -53,14 +54,14 @@ pub record Gathers (known : List Known) (es : List Expr) (o : Operands) : Type 0
   pub under_clock : map (meaning_under clock_level known) es ≡ map (meaning_of known) es
 
 -- what is gathered, with the operand at place k besides
-abbrev pub with_operand : ℕ → Operands → Judgement → Operands
-with_operand k o j = record {
+abbrev pub with_operand : (T : List Ty) → ℕ → Operands → Judgement → Operands
+with_operand T k o j = record {
   first = if k == 0 then j.meaning else o.first;
   second = if k == 1 then j.meaning else o.second;
   third = if k == 2 then j.meaning else o.third;
   all_known = o.all_known && is_some j.meaning;
-  unfit = o.unfit || fails is_operand (meaning_seen j);
-  clocked = o.clocked || (not (k == 0) && fails has_no_clock (meaning_seen j));
+  unfit = o.unfit || fails is_operand (meaning_seen T j);
+  clocked = o.clocked || (not (k == 0) && fails has_no_clock (meaning_seen T j));
   unknown = o.unknown || j.unknown;
   wrong = o.wrong || j.wrong;
   clock = o.clock || j.clock;
@@ -78,9 +79,9 @@ abbrev pub misfit : Op → Option Thing → Option Thing → Option Thing → Bo
 misfit op a b c = not (signs_fit op (is_signed_thing a) (is_signed_thing b) (is_signed_thing c))
 
 -- wrong operands, from what is gathered of them
-abbrev pub wrong_given : Op → Operands → Bool
-wrong_given Mux o = wrong_mux (option_map meant o.first) (option_map meant o.second) (option_map meant o.third)
-wrong_given op o = o.unfit || (o.all_known && misfit op (option_map meant o.first) (option_map meant o.second) (option_map meant o.third))
+abbrev pub wrong_given : (T : List Ty) → Op → Operands → Bool
+wrong_given T Mux o = wrong_mux (option_map (meant T) o.first) (option_map (meant T) o.second) (option_map (meant T) o.third)
+wrong_given T op o = o.unfit || (o.all_known && misfit op (option_map (meant T) o.first) (option_map (meant T) o.second) (option_map (meant T) o.third))
 
 -- a Clock behind the first operand breaks a rule in a mux alone
 abbrev pub clock_given : Op → Bool → Bool

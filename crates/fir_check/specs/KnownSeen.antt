@@ -2,6 +2,7 @@
 use Rattle.std.specs.Prelude.{◌≡◌, ℕ, zero, suc, false, List, [], ◌∷◌, map, option_map}
 use Rattle.std.specs.declared.vec.Vec.{Vec}
 use Rattle.std.specs.declared.alloc.Global.{Global}
+use Rattle.fir_ast.specs.declared.tree.Ty.{Ty}
 use Rattle.fir_check.specs.declared.scope.Declared.{Declared}
 use Rattle.fir_check.specs.Names.{seconds}
 use Rattle.fir_check.specs.Scopes.{Known}
@@ -10,12 +11,16 @@ use Rattle.fir_check.specs.Seen.{meant}
 abbrev pub key_name : Vec ℕ Global → List ℕ
 key_name k = k.items
 
-abbrev pub known_at : Vec ℕ Global → Declared → Known
-known_at k d = record { name = k.items; open_here = d.open_here; meaning = option_map meant d.meaning }
-
 -- each name with its fact
-abbrev pub known_seen : List (Vec ℕ Global × Declared) → List Known
-known_seen es = map (λ e. known_at e.0 e.1) es
+abbrev pub facts_seen : List (Vec ℕ Global × Declared) → List (List ℕ × Declared)
+facts_seen es = map (λ e. (e.0.items, e.1)) es
+
+abbrev pub known_at : List Ty → List ℕ × Declared → Known
+known_at types e = record { name = e.0; open_here = e.1.open_here; meaning = option_map (meant types) e.1.meaning }
+
+-- what is known, where these are the types of the numbers
+abbrev pub seen : List Ty → List (List ℕ × Declared) → List Known
+seen types es = map (known_at types) es
 
 -- no name stands there twice
 abbrev pub IsDistinctNames : List (Vec ℕ Global × Declared) → Type 0

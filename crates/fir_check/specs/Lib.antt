@@ -6,6 +6,8 @@ pub mod Seen
 pub mod KnownSeen
 pub mod Judging
 pub mod Rules
+pub mod Numbers
+pub mod TypeRows
 pub mod Driven
 pub mod Places
 pub mod Ports

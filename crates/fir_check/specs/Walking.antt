@@ -19,7 +19,7 @@ use Rattle.fir_check.specs.declared.exprs.Judgement.{Judgement}
 use Rattle.fir_check.specs.Seen.{meant}
 use Rattle.fir_check.specs.Types.{is_ground}
 use Rattle.fir_check.specs.Names.{kept}
-use Rattle.fir_check.specs.Scopes.{Thing, Known, Walk, StmtRule, somewhere, meaning_of, body_lines, declares, with_declared}
+use Rattle.fir_check.specs.Scopes.{Thing, Known, Walk, StmtRule, somewhere, meaning_of, body_lines, declares, with_declared, line_of}
 use Rattle.fir_check.specs.Rules.{double_at, unknown_at, wrong_at, flow_at, clock_at, reset_uses, unknown_level, wrong_level, clock_level, wrong_reset, clock_in_reset, wrong_verif, fails, has_no_clock, is_value, is_condition}
 use Rattle.fir_check.specs.Places.{lowered}
 
@@ -68,6 +68,10 @@ pub record Told (modules : List Module) (m : Module) (known : List Known) (s : S
   pub flow : b.flow ≡ flow_at known s
   pub clock : b.clock ≡ clock_at modules m known s
 
+-- the line of a statement, for each rule that it breaks itself
+abbrev pub stmt_breaks : List Module → Module → List Known → Stmt-F Walk → Rule → List ℕ
+stmt_breaks modules m known s rule = kept (stmt_rule modules m rule known s) (line_of s) []
+
 -- which rules the expressions of a reset break
 pub record ResetTold (known : List Known) (t : Ty) (reset : Option ResetPair) (r : Resets) : Type 0 where
   pub unknown : r.unknown ≡ list_any (λ u. somewhere unknown_level u.known u.expr) (reset_uses known reset)
@@ -103,11 +107,11 @@ misplaced k before m =
     || ((not (k == 0) && (nat_lt k before && fails is_condition m)) || (nat_le before k && fails (λ t. is_ground t.ty) m))
 
 -- what is told of expressions, with the one at place k besides
-abbrev pub with_arg : ℕ → ℕ → Args → Judgement → Args
-with_arg k before a j = record {
+abbrev pub with_arg : (T : List Ty) → ℕ → ℕ → Args → Judgement → Args
+with_arg T k before a j = record {
   unknown = a.unknown || j.unknown;
   wrong = a.wrong || j.wrong;
   clock = a.clock || j.clock;
-  unfit = a.unfit || misplaced k before (option_map meant j.meaning);
-  clocked = a.clocked || (nat_le before k && fails has_no_clock (option_map meant j.meaning));
+  unfit = a.unfit || misplaced k before (option_map (meant T) j.meaning);
+  clocked = a.clocked || (nat_le before k && fails has_no_clock (option_map (meant T) j.meaning));
 }

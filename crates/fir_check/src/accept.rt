@@ -1,16 +1,21 @@
 //! The rules that a circuit keeps before it is elaborated, all at once.
-ghost use Rattle.std.specs.Prelude.{◌≡◌, None, Some, map, option_map, OnOk, IfOk, IfErr};
+ghost use Rattle.std.specs.Prelude.{◌≡◌, None, Some, flat_map, map, option_map, OnOk, IfOk, IfErr};
 ghost use Rattle.fir_check.specs.Faults.{Tells};
 ghost use Rattle.fir_check.specs.Rules.{circuit_rule, no_main_lines};
 ghost use Rattle.fir_check.specs.Places.{break_seen, least, lowered, place};
+ghost use Rattle.fir_check.specs.Driven.{clock_inputs, all_seen};
 ghost use Rattle.fir_check.specs.Ports.{all_port_breaks, named_breaks};
-ghost use Rattle.fir_check.specs.Scopes.{module_named};
+ghost use Rattle.fir_check.specs.Scopes.{module_named, ports_type};
+ghost use Rattle.fir_check.specs.Seen.{type_at};
+ghost use Rattle.fir_check.specs.Numbers.{ComesNext, types_in};
 ghost use Rattle.fir_check.specs.Tables.{NamesModules};
 ghost use Rattle.fir_check.specs.Walking.{all_body_breaks};
 
 use crate::best::{Best, Break, Rule, least_place_decides};
 use crate::checked::Checked;
+use crate::clock_inputs::clock_inputs;
 use crate::cycles::note_cycles;
+use crate::declared_types::{Numbering, number_all};
 use crate::instance_types::instance_types;
 use crate::main_module::missing_main;
 use crate::name_table::{NameTable, name_modules};
@@ -19,7 +24,7 @@ use crate::ports::{note_main_ports, note_ports};
 use crate::sinks::port_sinks;
 use crate::surroundings::Surroundings;
 use crate::walk::note_statements;
-use fir_ast::{Circuit, Module, Ty};
+use fir_ast::{Circuit, Module};
 use std::alloc::Global;
 use tb_base::Memory;
 use thiserror::Error;
@@ -108,6 +113,41 @@ fn note_ports_of_main(name: &[u8], modules: &[Module], table: &NameTable, best: 
     }
 }
 
+/// Takes note of the statements of the modules that break a rule, where the types are numbered.
+fn note_numbered_statements(
+    alloc: Global,
+    modules: &[Module],
+    table: &NameTable,
+    numbering: &Numbering,
+    clocks: &[Vec<Vec<u8>>],
+    best: &mut Best,
+) -> Result<(), Memory>
+    requires table { NamesModules modules.now table.now }
+    requires instances { map (type_at numbering.now.types) numbering.now.instances.items ≡ map ports_type modules.now }
+    requires clocks { all_seen clocks.now ≡ map clock_inputs modules.now }
+    requires declared { ComesNext numbering.now.types numbering.now.declared.items 0 (flat_map types_in modules.now) }
+    ensures { OnOk result (best.new ≡ lowered best.old (all_body_breaks modules.now)) }
+{
+    let instances = numbering.instances.as_slice();
+    let declared = numbering.declared.as_slice();
+    let mut next = 0;
+    for home in modules {
+        let sinks = port_sinks(alloc, home)?;
+        let around = Surroundings {
+            types: &numbering.types,
+            modules,
+            table,
+            instances,
+            clocks,
+            declared,
+            home,
+            sinks: &sinks,
+        };
+        note_statements(alloc, around, &mut next, best)?;
+    }
+    Ok(())
+}
+
 /// Takes note of the statements of the modules that break a rule.
 fn note_all_statements(
     alloc: Global,
@@ -118,21 +158,11 @@ fn note_all_statements(
     requires { NamesModules modules.now table.now }
     ensures { OnOk result (best.new ≡ lowered best.old (all_body_breaks modules.now)) }
 {
-    let numbers = NumberTypes::new();
-    let types = instance_types(alloc, modules)?;
-    for home in modules {
-        let sinks = port_sinks(alloc, home)?;
-        let around = Surroundings {
-            numbers: &numbers,
-            modules,
-            table,
-            types: &types,
-            home,
-            sinks: &sinks,
-        };
-        note_statements(alloc, around, best)?;
-    }
-    Ok(())
+    let literals = NumberTypes::new();
+    let instances = instance_types(alloc, modules)?;
+    let numbering = number_all(alloc, &literals, instances.as_slice(), modules)?;
+    let clocks = clock_inputs(alloc, modules)?;
+    note_numbered_statements(alloc, modules, table, &numbering, clocks.as_slice(), best)
 }
 
 /// The least line that breaks a rule, with the first rule that it breaks.
@@ -154,9 +184,10 @@ fn first_break(alloc: Global, circuit: &Circuit) -> Result<Option<Break>, Memory
 
 /// Checks a circuit against the rules. It is given back as it is where it keeps them; else the least
 /// line that breaks one is told, with the first rule that this line breaks. `CheckFault::Memory`
-/// says that there wasn't enough memory. The time is linear in the circuit's size, but for these: a
-/// field is looked for among all of its bundle, a comparison of shapes takes time linear in the size
-/// of both types, and instances on cycles of modules may take a search each.
+/// says that there wasn't enough memory. The time is linear in the circuit's size, times the depth of its
+/// types, but for these: a comparison of two types of different shapes takes time linear in the size of
+/// both, and instances on cycles of modules may take a search each. A statement behind a line that is
+/// known to break a rule is passed over, but for a node's value.
 pub fn check(alloc: Global, circuit: Circuit) -> Result<Checked, CheckFault>
     ensures kept { IfOk result (λ c. c ≡ circuit) }
     ensures rule { IfOk result (λ c. circuit_rule circuit ≡ None) }

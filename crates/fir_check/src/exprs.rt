@@ -8,14 +8,15 @@ ghost use Rattle.fir_check.specs.Scopes.{field_thing, element_thing, visible, me
 ghost use Rattle.fir_check.specs.Rules.{fails, lacks_field, has_element, wrong_index, unknown_level, wrong_level, clock_level};
 ghost use Rattle.fir_check.specs.Types.{is_bundle};
 ghost use Rattle.fir_check.specs.Seen.{meant};
+ghost use Rattle.fir_check.specs.KnownSeen.{seen};
 ghost use Rattle.fir_check.specs.Judging.{Judges, Gathers, meaning_seen, with_operand, applied_given, wrong_given, clock_given};
 
-use crate::numbers::NumberTypes;
 use crate::scope::Scope;
 use crate::thing::{
     Flow, Thing, differ, fails_branch, fails_bundle, fails_clockless, fails_condition,
     fails_element, fails_operand, fails_uint, fails_vector, is_signed_thing,
 };
+use crate::type_table::TypeTable;
 use crate::types::is_bundle;
 use fir_ast::Expr;
 use std::alloc::Global;
@@ -23,9 +24,9 @@ use tb_base::Op;
 
 /// What an expression stands for, and which rules some level of it breaks.
 #[derive(Clone, Copy)]
-pub struct Judgement<'a> {
+pub struct Judgement {
     /// What it stands for, if its names are known and its parts are there.
-    pub meaning: Option<Thing<'a>>,
+    pub meaning: Option<Thing>,
     /// Whether a name in it isn't known, or a bundle has no such field.
     pub unknown: bool,
     /// Whether a level of it is of the wrong kind.
@@ -35,60 +36,50 @@ pub struct Judgement<'a> {
 }
 
 /// Judges an expression where a statement stands. The time is linear in the size of the expression,
-/// but for the look-ups of fields and the comparisons of the branches of a mux.
-pub fn judge<'a>(
-    alloc: Global,
-    numbers: &'a NumberTypes,
-    scope: &Scope<'a>,
-    expr: &Expr,
-) -> Judgement<'a>
-    ensures meaning { option_map meant result.meaning ≡ meaning_of scope.now expr.now }
-    ensures unknown { result.unknown ≡ somewhere unknown_level scope.now expr.now }
-    ensures wrong { result.wrong ≡ somewhere wrong_level scope.now expr.now }
-    ensures clock { result.clock ≡ somewhere clock_level scope.now expr.now }
+/// but for the look-ups of names and the comparisons of the branches of a mux.
+pub fn judge(alloc: Global, types: &TypeTable, scope: &Scope, expr: &Expr) -> Judgement
+    ensures meaning { option_map (meant types.now) result.meaning ≡ meaning_of (seen types.now scope.now) expr.now }
+    ensures unknown { result.unknown ≡ somewhere unknown_level (seen types.now scope.now) expr.now }
+    ensures wrong { result.wrong ≡ somewhere wrong_level (seen types.now scope.now) expr.now }
+    ensures clock { result.clock ≡ somewhere clock_level (seen types.now scope.now) expr.now }
 {
-    judge_expr(alloc, numbers, scope, expr)
+    judge_expr(alloc, types, scope, expr)
 }
 
 #[cycle(judge)]
-fn judge_expr<'a>(
-    alloc: Global,
-    numbers: &'a NumberTypes,
-    scope: &Scope<'a>,
-    expr: &Expr,
-) -> Judgement<'a>
-    ensures { Judges scope.now expr.now result }
+fn judge_expr(alloc: Global, types: &TypeTable, scope: &Scope, expr: &Expr) -> Judgement
+    ensures { Judges types.now (seen types.now scope.now) expr.now result }
 {
     match expr {
-        Expr::Ident(name) => judge_name(scope, name.bytes()),
+        Expr::Ident(name) => judge_name(types, scope, name.bytes()),
         Expr::Part(of, name) => {
-            let of = judge_expr(alloc, numbers, scope, of.get());
-            judge_part(of, name.bytes())
+            let of = judge_expr(alloc, types, scope, of.get());
+            judge_part(types, of, name.bytes())
         }
         Expr::At(of, at) => {
-            let of = judge_expr(alloc, numbers, scope, of.get());
-            judge_at(of, *at)
+            let of = judge_expr(alloc, types, scope, of.get());
+            judge_at(types, of, *at)
         }
         Expr::Index(of, at) => {
-            let of = judge_expr(alloc, numbers, scope, of.get());
-            let at = judge_expr(alloc, numbers, scope, at.get());
-            judge_index(of, at)
+            let of = judge_expr(alloc, types, scope, of.get());
+            let at = judge_expr(alloc, types, scope, at.get());
+            judge_index(types, of, at)
         }
         Expr::Lit {
             signed,
             width: _,
             negative: _,
             magnitude: _,
-        } => unbroken(Some(Thing::new(numbers.of(*signed), Flow::Fixed))),
+        } => unbroken(Some(Thing::new(types.of_sign(*signed), Flow::Fixed))),
         Expr::Apply { op, args, nums: _ } => {
-            let operands = judge_operands(alloc, numbers, scope, args.as_slice());
-            judge_apply(alloc, numbers, *op, operands)
+            let operands = judge_operands(alloc, types, scope, args.as_slice());
+            judge_apply(alloc, types, *op, operands)
         }
     }
 }
 
-fn unbroken<'a>(meaning: Option<Thing<'a>>) -> Judgement<'a>
-    ensures meaning { result.meaning ≡ meaning.entry }
+fn unbroken(meaning: Option<Thing>) -> Judgement
+    ensures meaning { result.meaning ≡ meaning }
     ensures unknown { result.unknown ≡ false }
     ensures wrong { result.wrong ≡ false }
     ensures clock { result.clock ≡ false }
@@ -101,9 +92,9 @@ fn unbroken<'a>(meaning: Option<Thing<'a>>) -> Judgement<'a>
     }
 }
 
-fn judge_name<'a>(scope: &Scope<'a>, name: &[u8]) -> Judgement<'a>
-    ensures meaning { meaning_seen result ≡ option_and_then (λ k. k.meaning) (visible name.now scope.now) }
-    ensures unknown { result.unknown ≡ is_none (visible name.now scope.now) }
+fn judge_name(types: &TypeTable, scope: &Scope, name: &[u8]) -> Judgement
+    ensures meaning { meaning_seen types.now result ≡ option_and_then (λ k. k.meaning) (visible name.now (seen types.now scope.now)) }
+    ensures unknown { result.unknown ≡ is_none (visible name.now (seen types.now scope.now)) }
     ensures wrong { result.wrong ≡ false }
     ensures clock { result.clock ≡ false }
 {
@@ -118,17 +109,17 @@ fn judge_name<'a>(scope: &Scope<'a>, name: &[u8]) -> Judgement<'a>
     }
 }
 
-fn judge_part<'a>(of: Judgement<'a>, name: &[u8]) -> Judgement<'a>
-    ensures meaning { meaning_seen result ≡ option_and_then (field_thing name.now) (meaning_seen of.entry) }
-    ensures unknown { result.unknown ≡ lacks_field name.now (meaning_seen of.entry) || of.entry.unknown }
-    ensures wrong { result.wrong ≡ fails (λ t. is_bundle t.ty) (meaning_seen of.entry) || of.entry.wrong }
-    ensures clock { result.clock ≡ of.entry.clock }
+fn judge_part(types: &TypeTable, of: Judgement, name: &[u8]) -> Judgement
+    ensures meaning { meaning_seen types.now result ≡ option_and_then (field_thing name.now) (meaning_seen types.now of) }
+    ensures unknown { result.unknown ≡ lacks_field name.now (meaning_seen types.now of) || of.unknown }
+    ensures wrong { result.wrong ≡ fails (λ t. is_bundle t.ty) (meaning_seen types.now of) || of.wrong }
+    ensures clock { result.clock ≡ of.clock }
 {
     match of.meaning {
         None => of,
         Some(thing) => {
-            let field = thing.field(name);
-            let bundle = is_bundle(thing.ty);
+            let field = thing.field(types, name);
+            let bundle = is_bundle(types.ty(thing.number));
             Judgement {
                 meaning: field,
                 unknown: (bundle && field.is_none()) || of.unknown,
@@ -140,49 +131,50 @@ fn judge_part<'a>(of: Judgement<'a>, name: &[u8]) -> Judgement<'a>
 }
 
 /// Any element of what is a vector.
-fn element<'a>(meaning: Option<Thing<'a>>) -> Option<Thing<'a>>
-    ensures { option_map meant result ≡ option_and_then element_thing (option_map meant meaning.entry) }
+fn element(types: &TypeTable, meaning: Option<Thing>) -> Option<Thing>
+    ensures { option_map (meant types.now) result ≡ option_and_then element_thing (option_map (meant types.now) meaning) }
 {
     match meaning {
         None => None,
-        Some(thing) => thing.element(),
+        Some(thing) => thing.element(types),
     }
 }
 
-fn judge_at<'a>(of: Judgement<'a>, at: u128) -> Judgement<'a>
-    ensures meaning { meaning_seen result ≡ option_and_then element_thing (meaning_seen of.entry) }
-    ensures unknown { result.unknown ≡ of.entry.unknown }
-    ensures wrong { result.wrong ≡ fails (has_element at) (meaning_seen of.entry) || of.entry.wrong }
-    ensures clock { result.clock ≡ of.entry.clock }
+fn judge_at(types: &TypeTable, of: Judgement, at: u128) -> Judgement
+    ensures meaning { meaning_seen types.now result ≡ option_and_then element_thing (meaning_seen types.now of) }
+    ensures unknown { result.unknown ≡ of.unknown }
+    ensures wrong { result.wrong ≡ fails (has_element at) (meaning_seen types.now of) || of.wrong }
+    ensures clock { result.clock ≡ of.clock }
 {
     Judgement {
-        meaning: element(of.meaning),
+        meaning: element(types, of.meaning),
         unknown: of.unknown,
-        wrong: fails_element(of.meaning, at) || of.wrong,
+        wrong: fails_element(types, of.meaning, at) || of.wrong,
         clock: of.clock,
     }
 }
 
-fn judge_index<'a>(of: Judgement<'a>, at: Judgement<'a>) -> Judgement<'a>
-    ensures meaning { meaning_seen result ≡ option_and_then element_thing (meaning_seen of.entry) }
-    ensures unknown { result.unknown ≡ of.entry.unknown || at.entry.unknown }
-    ensures wrong { result.wrong ≡ wrong_index (meaning_seen of.entry) (meaning_seen at.entry) || (of.entry.wrong || at.entry.wrong) }
-    ensures clock { result.clock ≡ of.entry.clock || at.entry.clock }
+fn judge_index(types: &TypeTable, of: Judgement, at: Judgement) -> Judgement
+    ensures meaning { meaning_seen types.now result ≡ option_and_then element_thing (meaning_seen types.now of) }
+    ensures unknown { result.unknown ≡ of.unknown || at.unknown }
+    ensures wrong { result.wrong ≡ wrong_index (meaning_seen types.now of) (meaning_seen types.now at) || (of.wrong || at.wrong) }
+    ensures clock { result.clock ≡ of.clock || at.clock }
 {
     Judgement {
-        meaning: element(of.meaning),
+        meaning: element(types, of.meaning),
         unknown: of.unknown || at.unknown,
-        wrong: (fails_vector(of.meaning) || fails_uint(at.meaning)) || (of.wrong || at.wrong),
+        wrong: (fails_vector(types, of.meaning) || fails_uint(types, at.meaning))
+            || (of.wrong || at.wrong),
         clock: of.clock || at.clock,
     }
 }
 
 /// What is gathered of an operation's operands.
 #[derive(Clone, Copy)]
-struct Operands<'a> {
-    first: Option<Thing<'a>>,
-    second: Option<Thing<'a>>,
-    third: Option<Thing<'a>>,
+struct Operands {
+    first: Option<Thing>,
+    second: Option<Thing>,
+    third: Option<Thing>,
     all_known: bool,
     /// Whether one may be no operand of an operation other than a mux.
     unfit: bool,
@@ -193,18 +185,18 @@ struct Operands<'a> {
     clock: bool,
 }
 
-impl<'a> Operands<'a> {
+impl Operands {
     /// With the operand at place `k` besides, which stands behind them.
-    fn with(self, k: usize, next: Judgement<'a>) -> Operands<'a>
-        ensures { result ≡ with_operand k self.entry next.entry }
+    fn with(self, types: &TypeTable, k: usize, next: Judgement) -> Operands
+        ensures { result ≡ with_operand types.now k self next }
     {
-        let clocked = fails_clockless(next.meaning);
+        let clocked = fails_clockless(types, next.meaning);
         Operands {
             first: chosen(k == 0, next.meaning, self.first),
             second: chosen(k == 1, next.meaning, self.second),
             third: chosen(k == 2, next.meaning, self.third),
             all_known: self.all_known & next.meaning.is_some(),
-            unfit: self.unfit | fails_operand(next.meaning),
+            unfit: self.unfit | fails_operand(types, next.meaning),
             clocked: self.clocked | ((k != 0) & clocked),
             unknown: self.unknown | next.unknown,
             wrong: self.wrong | next.wrong,
@@ -213,20 +205,15 @@ impl<'a> Operands<'a> {
     }
 }
 
-fn chosen<'a>(is_here: bool, here: Option<Thing<'a>>, there: Option<Thing<'a>>) -> Option<Thing<'a>>
-    ensures { result ≡ (if is_here then here.entry else there.entry) }
+fn chosen(is_here: bool, here: Option<Thing>, there: Option<Thing>) -> Option<Thing>
+    ensures { result ≡ (if is_here then here else there) }
 {
     if is_here { here } else { there }
 }
 
 #[cycle(judge)]
-fn judge_operands<'a>(
-    alloc: Global,
-    numbers: &'a NumberTypes,
-    scope: &Scope<'a>,
-    args: &[Expr],
-) -> Operands<'a>
-    ensures { Gathers scope.now args.now result }
+fn judge_operands(alloc: Global, types: &TypeTable, scope: &Scope, args: &[Expr]) -> Operands
+    ensures { Gathers types.now (seen types.now scope.now) args.now result }
 {
     let mut operands = Operands {
         first: None,
@@ -241,8 +228,8 @@ fn judge_operands<'a>(
     };
     let mut k = 0;
     while k < args.len() {
-        let next = judge_expr(alloc, numbers, scope, &args[k]);
-        operands = operands.with(k, next);
+        let next = judge_expr(alloc, types, scope, &args[k]);
+        operands = operands.with(types, k, next);
         k += 1;
     }
     operands
@@ -281,56 +268,51 @@ fn has_sign(op: Op, first: bool) -> bool
 }
 
 /// What an operation stands for.
-fn applied<'a>(numbers: &'a NumberTypes, op: Op, operands: Operands<'a>) -> Option<Thing<'a>>
-    ensures { option_map meant result ≡ applied_given op (option_map meant operands.entry.first) (option_map meant operands.entry.second) }
+fn applied(types: &TypeTable, op: Op, operands: Operands) -> Option<Thing>
+    ensures { option_map (meant types.now) result ≡ applied_given op (option_map (meant types.now) operands.first) (option_map (meant types.now) operands.second) }
 {
     match op {
         Op::Mux => match operands.second {
             None => None,
-            Some(taken) => Some(Thing::new(taken.ty, Flow::Fixed)),
+            Some(taken) => Some(Thing::new(taken.number, Flow::Fixed)),
         },
         _ => {
-            let signed = has_sign(op, is_signed_thing(operands.first));
-            Some(Thing::new(numbers.of(signed), Flow::Fixed))
+            let signed = has_sign(op, is_signed_thing(types, operands.first));
+            Some(Thing::new(types.of_sign(signed), Flow::Fixed))
         }
     }
 }
 
 /// Whether the operands are of the wrong kind.
-fn has_wrong_operands(alloc: Global, op: Op, operands: Operands) -> bool
-    ensures { result ≡ wrong_given op operands.entry }
+fn has_wrong_operands(alloc: Global, types: &TypeTable, op: Op, operands: Operands) -> bool
+    ensures { result ≡ wrong_given types.now op operands }
 {
     match op {
         Op::Mux => {
-            fails_condition(operands.first)
-                || fails_branch(operands.second)
-                || fails_branch(operands.third)
-                || differ(alloc, operands.second, operands.third)
+            fails_condition(types, operands.first)
+                || fails_branch(types, operands.second)
+                || fails_branch(types, operands.third)
+                || differ(alloc, types, operands.second, operands.third)
         }
         _ => {
-            let x = is_signed_thing(operands.first);
-            let y = is_signed_thing(operands.second);
-            let z = is_signed_thing(operands.third);
+            let x = is_signed_thing(types, operands.first);
+            let y = is_signed_thing(types, operands.second);
+            let z = is_signed_thing(types, operands.third);
             operands.unfit || (operands.all_known && !do_signs_fit(op, x, y, z))
         }
     }
 }
 
-fn judge_apply<'a>(
-    alloc: Global,
-    numbers: &'a NumberTypes,
-    op: Op,
-    operands: Operands<'a>,
-) -> Judgement<'a>
-    ensures meaning { meaning_seen result ≡ applied_given op (option_map meant operands.entry.first) (option_map meant operands.entry.second) }
-    ensures unknown { result.unknown ≡ operands.entry.unknown }
-    ensures wrong { result.wrong ≡ wrong_given op operands.entry || operands.entry.wrong }
-    ensures clock { result.clock ≡ clock_given op operands.entry.clocked || operands.entry.clock }
+fn judge_apply(alloc: Global, types: &TypeTable, op: Op, operands: Operands) -> Judgement
+    ensures meaning { meaning_seen types.now result ≡ applied_given op (option_map (meant types.now) operands.first) (option_map (meant types.now) operands.second) }
+    ensures unknown { result.unknown ≡ operands.unknown }
+    ensures wrong { result.wrong ≡ wrong_given types.now op operands || operands.wrong }
+    ensures clock { result.clock ≡ clock_given op operands.clocked || operands.clock }
 {
     Judgement {
-        meaning: applied(numbers, op, operands),
+        meaning: applied(types, op, operands),
         unknown: operands.unknown,
-        wrong: has_wrong_operands(alloc, op, operands) || operands.wrong,
+        wrong: has_wrong_operands(alloc, types, op, operands) || operands.wrong,
         clock: (op == Op::Mux && operands.clocked) || operands.clock,
     }
 }

@@ -5,7 +5,7 @@
 ghost use Rattle.std.specs.Prelude.{◌≡◌, ◌&&◌, true, not, option_map, map, IfOk, IfSome};
 ghost use Rattle.std.specs.List.{list_any};
 ghost use Rattle.fir_check.specs.Names.{is_among};
-ghost use Rattle.fir_check.specs.Types.{is_ground, is_clock, is_signed, is_uint, is_unsigned, is_bundle, field_named, vector_of, repeats_field, has_flip, holds_clock, same_shape, leaves};
+ghost use Rattle.fir_check.specs.Types.{is_ground, is_clock, is_signed, is_uint, is_unsigned, is_bundle, vector_of, repeats_field, has_flip, holds_clock, same_shape, leaves};
 ghost use Rattle.fir_check.specs.Rules.{has_unsized_input};
 ghost use Rattle.fir_check.specs.Tables.{NamesFields};
 ghost use Rattle.fir_check.specs.Fields.{lent_slot, lent_pair, field_name, field_type, named_slot, first_fields, repeats_name, flips, is_wanted, has_wanted, have_matches, have_names, has_match, matches};
@@ -63,17 +63,6 @@ pub fn vector_of(ty: &Ty) -> Option<(&Ty, u32)>
 {
     match ty {
         Ty::Vector(of, len) => Some((of.get(), *len)),
-        _ => None,
-    }
-}
-
-/// The field of a name, `None` also where the type is no bundle. The time is linear in the number of
-/// fields.
-pub fn field_named<'a>(name: &[u8], ty: &'a Ty) -> Option<&'a Field>
-    ensures { option_map lent_slot result ≡ field_named name.now ty.now }
-{
-    match ty {
-        Ty::Bundle(fields) => first_named(name, fields.as_slice()),
         _ => None,
     }
 }
