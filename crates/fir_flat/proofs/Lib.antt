@@ -26,3 +26,5 @@ pub mod SignalFacts
 pub mod ListingFacts
 pub mod PortEntries
 pub mod CourseFacts
+pub mod ScopeFacts
+pub mod FieldFacts

@@ -38,6 +38,10 @@ pub record Weighs (m : Measure) (w : Weight) : Type 0 where
   pub times : w.times ≡ cut m.times
   pub round : w.round ≡ cut m.round
 
+-- a declared name's measure
+abbrev pub name_measure : Bound → Measure
+name_measure b = record { ty = b.ty; flow = b.flow; nodes = 1; times = 1; round = 0 }
+
 -- the operands of an operation: the first three, and the nodes of all
 pub record Gathers (ms : List Measure) (o : Operands) : Type 0 where
   pub first : Weighs (measure_at 0 ms) o.first

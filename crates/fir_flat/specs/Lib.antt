@@ -10,6 +10,7 @@ pub mod Writing
 pub mod Signals
 pub mod Listing
 pub mod Kinds
+pub mod Scopes
 pub mod Counts
 pub mod Modules
 pub mod Measures
@@ -19,3 +20,4 @@ pub mod Elaboration
 pub mod Limits
 pub mod Examples
 pub mod Flattening
+pub mod Fields

@@ -7,13 +7,13 @@ ghost use Rattle.fir_flat.specs.Limits.{IsRanked, Fits, Passes};
 ghost use Rattle.fir_flat.specs.Signals.{seen_entry, seen_opening};
 ghost use Rattle.fir_flat.specs.Writing.{CountsSignals};
 
+use crate::directory::Directory;
 use crate::homes::signal_counts;
 use crate::limits::{FlatFault, check_limits};
-use crate::own::place_of;
 use crate::own_body::write_own;
 use crate::own_entries::list_own;
 use crate::signals::{Entry, Opening};
-use fir_ast::{Circuit, Module};
+use fir_ast::Circuit;
 use net_core::{Elab, Ground, SignalInfo};
 use std::alloc::Global;
 use tb_base::{Memory, Name, Seq};
@@ -32,7 +32,7 @@ impl Course {
     fn open(
         &mut self,
         alloc: Global,
-        modules: &[Module],
+        modules: &Directory,
         counts: &[u64],
         opening: &Opening,
     ) -> Result<(), Memory>
@@ -51,7 +51,7 @@ impl Course {
     fn expand(
         &mut self,
         alloc: Global,
-        modules: &[Module],
+        modules: &Directory,
         counts: &[u64],
         entry: Entry,
     ) -> Result<(), Memory>
@@ -72,7 +72,7 @@ impl Course {
 /// All of an instance: its signals, and its statements with those of the instances in it.
 fn lay_out(
     alloc: Global,
-    modules: &[Module],
+    modules: &Directory,
     counts: &[u64],
     opening: Opening,
 ) -> Result<Course, Memory>
@@ -96,7 +96,7 @@ fn lay_out(
 /// order, those of an instance behind those of the module that it lies in. `Err` has the first limit
 /// that it passes, as `check_limits` says, or want of memory. No module may contain itself, and the
 /// main module is there. The time is linear in the size of the elaboration, of its names and of the
-/// expanded modules' text, but for the look-ups of names; the depth of instances costs no stack.
+/// expanded modules' text, but for the look-ups of fields; the depth of instances costs no stack.
 pub fn flatten(alloc: Global, circuit: &Circuit) -> Result<Elab, FlatFault>
     requires ranked { (rank : ℕ → ℕ) × IsRanked rank circuit.now }
     requires main { place_of circuit.now.modules circuit.now.name < length circuit.now.modules }
@@ -105,15 +105,15 @@ pub fn flatten(alloc: Global, circuit: &Circuit) -> Result<Elab, FlatFault>
     ensures err { IfErr result (λ fault. Passes circuit.now fault) }
 {
     check_limits(alloc, circuit)?;
-    let modules = circuit.modules.items();
+    let modules = Directory::new(alloc, circuit.modules.items())?;
     let main = Opening {
-        target: place_of(modules, circuit.name.bytes()),
+        target: modules.place_of(circuit.name.bytes()),
         first: 0,
         prefix: Name::of(Vec::new(alloc)),
         top: true,
     };
-    let counts = signal_counts(alloc, modules)?;
-    let course = lay_out(alloc, modules, &counts, main)?;
+    let counts = signal_counts(alloc, &modules)?;
+    let course = lay_out(alloc, &modules, &counts, main)?;
     Ok(Elab {
         name: circuit.name.copy(alloc)?,
         signals: Seq::of(course.signals),

@@ -1,7 +1,8 @@
 //! Counts of modules with all their instances, once for each module.
 //!
-//! The counts begin at 0. A sweep raises each to what the counts of its instances' modules give; once
-//! a sweep raises none, they are right. No count goes beyond one past the greatest limit.
+//! The counts begin at 0. Each module is counted once, behind those that it instances. Then a sweep
+//! raises each count to what those of its instances' modules give; once a sweep raises none, they are
+//! right, whatever the order was. No count goes beyond one past the greatest limit.
 ghost use Rattle.std.specs.Prelude.{◌≡◌, ◌≤◌, ◌<◌, ℕ, length, slice_index, IfOk, true, false, vec_len};
 ghost use Rattle.fir_flat.specs.Modules.{own_signals, targets_of, Ranked};
 ghost use Rattle.fir_flat.specs.Writing.{CountsSignals};
@@ -10,8 +11,9 @@ ghost use Rattle.fir_flat.specs.Counts.{cut};
 ghost use Rattle.fir_flat.specs.Homes.{next_count, next_at, room, Lower, recounted, rises, count, IsRanked, AreHomes};
 
 use crate::counts::sum;
+use crate::directory::Directory;
+use crate::order::instances_first;
 use crate::own::tally_of;
-use fir_ast::Module;
 use std::alloc::Global;
 use tb_base::Memory;
 
@@ -87,12 +89,50 @@ fn sweep(homes: &[Home], counts: &mut [u64]) -> bool
     rose
 }
 
-/// The count of each module, cut at one past the limit.
+/// Counts the home at a place anew, if there is one.
+fn recount_at(homes: &[Home], place: usize, counts: &mut [u64])
+    requires ranked { (rank : ℕ → ℕ) × IsRanked rank homes.now }
+    requires long { length counts.old ≡ length homes.now }
+    requires lower { Lower homes.now counts.old }
+    ensures { Lower homes.now counts.new }
+{
+    if place >= homes.len() {
+        return;
+    }
+    recount(homes, place, counts);
+}
+
+/// Counts the homes at these places, one behind the other.
+fn recount_each(homes: &[Home], places: &[usize], counts: &mut [u64])
+    requires ranked { (rank : ℕ → ℕ) × IsRanked rank homes.now }
+    requires long { length counts.old ≡ length homes.now }
+    requires lower { Lower homes.now counts.old }
+    ensures { Lower homes.now counts.new }
+{
+    for place in places {
+        recount_at(homes, *place, counts);
+    }
+}
+
+/// Counts that are none too great. Each home is counted once, behind those of its instances, so that
+/// mostly none is too small either.
+fn first_counts(alloc: Global, homes: &[Home]) -> Result<Vec<u64>, Memory>
+    requires { (rank : ℕ → ℕ) × IsRanked rank homes.now }
+    ensures long { IfOk result (λ counts. vec_len counts ≡ length homes.now) }
+    ensures lower { IfOk result (λ counts. Lower homes.now counts.items) }
+{
+    let places = instances_first(alloc, homes)?;
+    let mut counts = zeros(alloc, homes.len())?;
+    recount_each(homes, &places, &mut counts);
+    Ok(counts)
+}
+
+/// The count of each module, cut at one past the limit. The time is linear in the number of instances.
 pub(crate) fn capped_counts(alloc: Global, homes: &[Home]) -> Result<Vec<u64>, Memory>
     requires { (rank : ℕ → ℕ) × IsRanked rank homes.now }
     ensures { IfOk result (λ counts. (k : ℕ) → slice_index counts.items k ≡ cut (count homes.now k)) }
 {
-    let mut counts = zeros(alloc, homes.len())?;
+    let mut counts = first_counts(alloc, homes)?;
     loop {
         if !sweep(homes, &mut counts) {
             return Ok(counts);
@@ -111,11 +151,11 @@ fn zeros(alloc: Global, n: usize) -> Result<Vec<u64>, Memory>
 }
 
 /// The modules by their signals.
-pub(crate) fn signal_homes(alloc: Global, modules: &[Module]) -> Result<Vec<Home>, Memory>
+pub(crate) fn signal_homes(alloc: Global, modules: &Directory) -> Result<Vec<Home>, Memory>
     ensures { IfOk result (λ hs. AreHomes (own_signals modules.now) modules.now modules.now hs.items) }
 {
     let mut homes = Vec::new(alloc);
-    for home in modules {
+    for home in modules.modules() {
         let tally = tally_of(alloc, modules, home)?;
         homes.push(Home {
             own: sum(tally.signals, 0),
@@ -126,11 +166,11 @@ pub(crate) fn signal_homes(alloc: Global, modules: &[Module]) -> Result<Vec<Home
 }
 
 /// The modules by their parts.
-pub(crate) fn part_homes(alloc: Global, modules: &[Module]) -> Result<Vec<Home>, Memory>
+pub(crate) fn part_homes(alloc: Global, modules: &Directory) -> Result<Vec<Home>, Memory>
     ensures { IfOk result (λ hs. AreHomes (own_weight modules.now) modules.now modules.now hs.items) }
 {
     let mut homes = Vec::new(alloc);
-    for home in modules {
+    for home in modules.modules() {
         let tally = tally_of(alloc, modules, home)?;
         homes.push(Home {
             own: sum(tally.parts, 0),
@@ -141,8 +181,8 @@ pub(crate) fn part_homes(alloc: Global, modules: &[Module]) -> Result<Vec<Home>,
 }
 
 /// For each module the signals of an instance of it. The time is linear in the size of the modules'
-/// text, but for the look-ups of names and the sweeps over the modules.
-pub(crate) fn signal_counts(alloc: Global, modules: &[Module]) -> Result<Vec<u64>, Memory>
+/// text, but for the look-ups of fields.
+pub(crate) fn signal_counts(alloc: Global, modules: &Directory) -> Result<Vec<u64>, Memory>
     requires { (rank : ℕ → ℕ) × Ranked rank (targets_of modules.now) (length modules.now) }
     ensures { IfOk result (λ counts. CountsSignals modules.now counts.items) }
 {

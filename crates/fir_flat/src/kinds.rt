@@ -1,10 +1,10 @@
-//! Types as the elaboration sees them, and the names that are known.
+//! Types as the elaboration sees them, and what a name stands for.
 ghost use Rattle.std.specs.Prelude.{◌≡◌, []};
 ghost use Rattle.fir_flat.specs.Counts.{cut};
 ghost use Rattle.fir_flat.specs.Shapes.{size, empty, field_named, fields_shape, shape_of, ports_shape, element, elements, is_signed};
 ghost use Rattle.fir_flat.specs.Measures.{facing};
-ghost use Rattle.fir_flat.specs.Values.{turned, may_be_driven, bound_named};
-ghost use Rattle.fir_flat.specs.Kinds.{kind_shape, bound_of, seen, Finds};
+ghost use Rattle.fir_flat.specs.Values.{turned, may_be_driven};
+ghost use Rattle.fir_flat.specs.Kinds.{kind_shape, Finds};
 
 use crate::counts::sum;
 use crate::sizes::{facing, facing_ports, size_of, size_of_ports};
@@ -153,7 +153,7 @@ impl<'a> Kind<'a> {
 }
 
 /// Where a name is no field: an empty bundle.
-fn nowhere<'a>() -> Place<'a>
+pub(crate) fn nowhere<'a>() -> Place<'a>
     ensures { Finds (field_named [] empty) result }
 {
     Place {
@@ -263,24 +263,5 @@ fn is_signed_type(ty: &Ty) -> bool
         Ty::Reset => false,
         Ty::Bundle(_) => false,
         Ty::Vector(_, _) => false,
-    }
-}
-
-/// The first of that name. The time is linear in the number of names.
-pub(crate) fn known_named<'a>(known: &[Known<'a>], name: &[u8]) -> Known<'a>
-    ensures { bound_of result ≡ bound_named name.now (seen known.now) }
-{
-    let mut k = 0;
-    while k < known.len() {
-        if known[k].name == name {
-            return known[k];
-        }
-        k += 1;
-    }
-    Known {
-        name: b"",
-        kind: Kind::Empty,
-        flow: Flow::Fixed,
-        first: 0,
     }
 }

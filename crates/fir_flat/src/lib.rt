@@ -14,19 +14,24 @@
 #![tactic(auto)]
 
 mod counts;
+mod directory;
 mod examples;
+mod fields;
 mod flattening;
 mod homes;
 mod kinds;
 mod limits;
 mod listing;
+mod order;
 mod own;
 mod own_body;
 mod own_entries;
 mod partners;
 mod parts;
+mod places;
 mod ports;
 mod resolve;
+mod scope;
 mod signals;
 mod sizes;
 mod statements;

@@ -7,10 +7,10 @@ ghost use Rattle.fir_flat.specs.Homes.{count, IsRanked as AreRanked};
 ghost use Rattle.fir_flat.specs.Limits.{IsRanked, Fits, Passes, CountsElaboration};
 ghost use Rattle.fir_flat.specs.Elaboration.{signals, parts};
 
+use crate::directory::Directory;
 use crate::homes::{Home, capped_counts, count_at, part_homes, signal_homes};
-use crate::own::{place_of, ports_at};
 use crate::sizes::size_of_ports;
-use fir_ast::{Circuit, Module};
+use fir_ast::Circuit;
 use std::alloc::Global;
 use tb_base::Memory;
 use thiserror::Error;
@@ -54,7 +54,7 @@ fn count_with_instances(alloc: Global, homes: &[Home], place: usize) -> Result<u
 }
 
 /// The signals of an instance of the module at a place.
-fn signals_of(alloc: Global, modules: &[Module], place: usize) -> Result<u64, Memory>
+fn signals_of(alloc: Global, modules: &Directory, place: usize) -> Result<u64, Memory>
     requires ranked { (rank : ℕ → ℕ) × Ranked rank (targets_of modules.now) (length modules.now) }
     requires at { place < length modules.now }
     ensures { IfOk result (λ n. n ≡ cut (signals_in modules.now place)) }
@@ -65,7 +65,7 @@ fn signals_of(alloc: Global, modules: &[Module], place: usize) -> Result<u64, Me
 }
 
 /// The parts of an instance of the module at a place.
-fn parts_of(alloc: Global, modules: &[Module], place: usize) -> Result<u64, Memory>
+fn parts_of(alloc: Global, modules: &Directory, place: usize) -> Result<u64, Memory>
     requires ranked { (rank : ℕ → ℕ) × Ranked rank (targets_of modules.now) (length modules.now) }
     requires at { place < length modules.now }
     ensures { IfOk result (λ n. n ≡ cut (weight_in modules.now place)) }
@@ -87,9 +87,9 @@ fn count_signals(alloc: Global, circuit: &Circuit) -> Result<u64, Memory>
     requires main { place_of circuit.now.modules circuit.now.name < length circuit.now.modules }
     ensures { IfOk result (λ n. n ≡ cut (signals circuit.now)) }
 {
-    let modules = circuit.modules.items();
-    let place = place_of(modules, circuit.name.bytes());
-    let signals = signals_of(alloc, modules, place)?;
+    let modules = Directory::new(alloc, circuit.modules.items())?;
+    let place = modules.place_of(circuit.name.bytes());
+    let signals = signals_of(alloc, &modules, place)?;
     Ok(signals)
 }
 
@@ -99,9 +99,9 @@ fn count_parts(alloc: Global, circuit: &Circuit) -> Result<u64, Memory>
     requires main { place_of circuit.now.modules circuit.now.name < length circuit.now.modules }
     ensures { IfOk result (λ n. n ≡ cut (parts circuit.now)) }
 {
-    let modules = circuit.modules.items();
-    let place = place_of(modules, circuit.name.bytes());
-    let parts = parts_of(alloc, modules, place)?;
+    let modules = Directory::new(alloc, circuit.modules.items())?;
+    let place = modules.place_of(circuit.name.bytes());
+    let parts = parts_of(alloc, &modules, place)?;
     Ok(parts)
 }
 
@@ -114,9 +114,9 @@ pub fn check_limits(alloc: Global, circuit: &Circuit) -> Result<(), FlatFault>
     ensures ok { IfOk result (λ unit. Fits circuit.now) }
     ensures err { IfErr result (λ fault. Passes circuit.now fault) }
 {
-    let modules = circuit.modules.items();
-    let place = place_of(modules, circuit.name.bytes());
-    if size_of_ports(ports_at(modules, place)) > 256 {
+    let modules = Directory::new(alloc, circuit.modules.items())?;
+    let place = modules.place_of(circuit.name.bytes());
+    if size_of_ports(modules.ports_at(place)) > 256 {
         return Err(FlatFault::TooManyPorts);
     }
     if count_signals(alloc, circuit)? > 65_536 {

@@ -11,13 +11,14 @@ ghost use Rattle.fir_flat.specs.Writing.{CountsSignals};
 ghost use Rattle.fir_flat.specs.Listing.{Declares, Lists, ListsBlock, one_role};
 
 use crate::counts::exact;
+use crate::directory::Directory;
 use crate::homes::count_at;
 use crate::kinds::{Flow, Kind, Known};
-use crate::own::{place_of, ports_at};
+use crate::scope::Scope;
 use crate::signals::{Declared, Entry, Opening, put_kind_signals};
 use crate::weights::weigh;
 use crate::worth::plus;
-use fir_ast::{Module, Stmt};
+use fir_ast::Stmt;
 use net_core::Role;
 use std::alloc::Global;
 use tb_base::{Memory, Name, put};
@@ -55,10 +56,10 @@ fn list_name<'a>(
     name: &'a [u8],
     kind: Kind<'a>,
     flow: Flow,
-    known: &mut Vec<Known<'a>>,
+    known: &mut Scope<'a>,
     listed: &mut Listed,
 ) -> Result<(), Memory>
-    ensures { OnOk result (Declares known.old.items known.new.items listed.old listed.new (bound name.now (kind_shape kind.entry) flow listed.old.next) (signals_of declared (prefix.now ++ name.now) false (kind_shape kind.entry)) (size (kind_shape kind.entry))) }
+    ensures { OnOk result (Declares known.old known.new listed.old listed.new (bound name.now (kind_shape kind.entry) flow listed.old.next) (signals_of declared (prefix.now ++ name.now) false (kind_shape kind.entry)) (size (kind_shape kind.entry))) }
 {
     let size = exact(kind.size())?;
     let first = listed.next;
@@ -76,19 +77,19 @@ fn list_name<'a>(
 
 fn list_instance<'a>(
     alloc: Global,
-    modules: &'a [Module],
+    modules: &Directory<'a>,
     counts: &[u64],
     prefix: &[u8],
     name: &'a [u8],
     target: &[u8],
-    known: &mut Vec<Known<'a>>,
+    known: &mut Scope<'a>,
     listed: &mut Listed,
 ) -> Result<(), Memory>
     requires { CountsSignals modules.now counts.now }
-    ensures { OnOk result (Declares known.old.items known.new.items listed.old listed.new (instance modules.now name.now target.now listed.old.next) (opened (opened_at name.now (place_of modules.now target.now) listed.old.next prefix.now) ∷ []) (signals_in modules.now (place_of modules.now target.now))) }
+    ensures { OnOk result (Declares known.old known.new listed.old listed.new (instance modules.now name.now target.now listed.old.next) (opened (opened_at name.now (place_of modules.now target.now) listed.old.next prefix.now) ∷ []) (signals_in modules.now (place_of modules.now target.now))) }
 {
-    let place = place_of(modules, target);
-    let ports = ports_at(modules, place);
+    let place = modules.place_of(target);
+    let ports = modules.ports_at(place);
     let count = exact(count_at(counts, place))?;
     let first = listed.next;
     let inner = inner_prefix(alloc, prefix, name)?;
@@ -112,15 +113,15 @@ fn list_instance<'a>(
 #[cycle(list)]
 fn list_stmt<'a>(
     alloc: Global,
-    modules: &'a [Module],
+    modules: &Directory<'a>,
     counts: &[u64],
     prefix: &[u8],
     stmt: &'a Stmt,
-    known: &mut Vec<Known<'a>>,
+    known: &mut Scope<'a>,
     listed: &mut Listed,
 ) -> Result<(), Memory>
     requires { CountsSignals modules.now counts.now }
-    ensures { OnOk result (Lists modules.now prefix.now (statement stmt.now) known.old.items known.new.items listed.old listed.new) }
+    ensures { OnOk result (Lists modules.now prefix.now (statement stmt.now) known.old known.new listed.old listed.new) }
 {
     match stmt {
         Stmt::Wire { line, name, ty } => {
@@ -226,16 +227,16 @@ fn list_stmt<'a>(
 #[cycle(list)]
 pub(crate) fn list_block<'a>(
     alloc: Global,
-    modules: &'a [Module],
+    modules: &Directory<'a>,
     counts: &[u64],
     prefix: &[u8],
     stmts: &'a [Stmt],
-    known: &mut Vec<Known<'a>>,
+    known: &mut Scope<'a>,
     listed: &mut Listed,
 ) -> Result<(), Memory>
     requires { CountsSignals modules.now counts.now }
-    ensures listed { OnOk result (ListsBlock modules.now prefix.now (body_of stmts.now) known.old.items listed.old listed.new) }
-    ensures known { OnOk result (known.new.items ≡ known.old.items) }
+    ensures listed { OnOk result (ListsBlock modules.now prefix.now (body_of stmts.now) known.old listed.old listed.new) }
+    ensures known { OnOk result (known.new ≡ known.old) }
 {
     let before = known.len();
     let mut k = 0;

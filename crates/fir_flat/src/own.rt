@@ -2,15 +2,17 @@
 //! instances are of.
 ghost use Rattle.std.specs.Prelude.{◌≡◌, ◌+◌, ◌*◌, ◌++◌, ◌∷◌, [], ℕ, OnOk, IfOk, length, take, map};
 ghost use Rattle.fir_flat.specs.Bodies.{statement, body_of};
-ghost use Rattle.fir_flat.specs.Modules.{place_of, module_at, unplaced, own_signals, targets};
+ghost use Rattle.fir_flat.specs.Modules.{unplaced, own_signals, targets};
 ghost use Rattle.fir_flat.specs.Measures.{Measure, connect_weight, driven, reached, reset_weight, own_weight};
 ghost use Rattle.fir_flat.specs.Values.{bound};
 ghost use Rattle.fir_flat.specs.Counts.{cut};
-ghost use Rattle.fir_flat.specs.Kinds.{kind_shape, bound_of, seen, Weighs};
+ghost use Rattle.fir_flat.specs.Kinds.{kind_shape, seen, Weighs};
 ghost use Rattle.fir_flat.specs.Tallies.{Moves, Tallies};
 
 use crate::counts::{product, sum};
+use crate::directory::Directory;
 use crate::kinds::{Flow, Kind, Known};
+use crate::scope::Scope;
 use crate::sizes::{size_of, size_of_ports};
 use crate::weights::{Weight, weigh};
 use fir_ast::{Module, Port, ResetPair, Stmt};
@@ -36,40 +38,14 @@ impl Tally {
     }
 }
 
-/// The place of the module of a name, and the number of modules where there is none. The time is
-/// linear in that number.
-pub(crate) fn place_of(modules: &[Module], name: &[u8]) -> usize
-    ensures { result ≡ place_of modules.now name.now }
-{
-    let mut place = 0;
-    while place < modules.len() {
-        if modules[place].name.bytes() == name {
-            return place;
-        }
-        place += 1;
-    }
-    place
-}
-
-/// The ports of the module at a place; none past the last.
-pub(crate) fn ports_at(modules: &[Module], place: usize) -> &[Port]
-    ensures { result.now ≡ (module_at modules.now place).ports }
-{
-    if place < modules.len() {
-        modules[place].ports.items()
-    } else {
-        &[]
-    }
-}
-
 fn declare<'a>(
-    known: &mut Vec<Known<'a>>,
+    known: &mut Scope<'a>,
     name: &'a [u8],
     kind: Kind<'a>,
     flow: Flow,
 ) -> Result<(), Memory>
-    ensures names { OnOk result (seen known.new.items ≡ seen known.old.items ++ bound name.now (kind_shape kind.entry) flow 0 ∷ []) }
-    ensures kept { OnOk result (take (length known.old.items) known.new.items ≡ known.old.items) }
+    ensures names { OnOk result (seen known.new ≡ seen known.old ++ bound name.now (kind_shape kind.entry) flow 0 ∷ []) }
+    ensures kept { OnOk result (take (length known.old) known.new ≡ known.old) }
 {
     known.push(Known {
         name,
@@ -137,7 +113,7 @@ fn invalid_weight(sink: Weight) -> u64
     product(reached_parts(sink), driven_weight(sink, 0))
 }
 
-fn weigh_reset(known: &[Known], reset: &Option<ResetPair>) -> u64
+fn weigh_reset(known: &Scope, reset: &Option<ResetPair>) -> u64
     ensures { result ≡ cut (reset_weight (seen known.now) reset.now) }
 {
     match reset {
@@ -153,12 +129,12 @@ fn weigh_reset(known: &[Known], reset: &Option<ResetPair>) -> u64
 /// Counts one statement, and knows what it declares.
 #[cycle(count_own)]
 fn count_stmt<'a>(
-    modules: &'a [Module],
+    modules: &Directory<'a>,
     stmt: &'a Stmt,
-    known: &mut Vec<Known<'a>>,
+    known: &mut Scope<'a>,
     tally: &mut Tally,
 ) -> Result<(), Memory>
-    ensures { OnOk result (Moves modules.now (statement stmt.now) known.old.items known.new.items tally.old tally.new) }
+    ensures { OnOk result (Moves modules.now (statement stmt.now) known.old known.new tally.old tally.new) }
 {
     match stmt {
         Stmt::Wire { line: _, name, ty } => {
@@ -195,10 +171,10 @@ fn count_stmt<'a>(
             name,
             module,
         } => {
-            let place = place_of(modules, module.bytes());
+            let place = modules.place_of(module.bytes());
             tally.add(0, 1);
             tally.instances.push(place)?;
-            let ports = Kind::Ports(ports_at(modules, place));
+            let ports = Kind::Ports(modules.ports_at(place));
             declare(known, name.bytes(), ports, Flow::Source)?;
             Ok(())
         }
@@ -244,13 +220,13 @@ fn count_stmt<'a>(
 /// Counts a block. Behind it, what it declares isn't known any more.
 #[cycle(count_own)]
 fn count_block<'a>(
-    modules: &'a [Module],
+    modules: &Directory<'a>,
     stmts: &'a [Stmt],
-    known: &mut Vec<Known<'a>>,
+    known: &mut Scope<'a>,
     tally: &mut Tally,
 ) -> Result<(), Memory>
-    ensures counted { OnOk result (Tallies modules.now (body_of stmts.now) known.old.items tally.old tally.new) }
-    ensures known { OnOk result (known.new.items ≡ known.old.items) }
+    ensures counted { OnOk result (Tallies modules.now (body_of stmts.now) known.old tally.old tally.new) }
+    ensures known { OnOk result (known.new ≡ known.old) }
 {
     let before = known.len();
     let mut k = 0;
@@ -263,10 +239,10 @@ fn count_block<'a>(
 }
 
 /// The names of the ports.
-fn known_ports<'a>(alloc: Global, ports: &'a [Port]) -> Result<Vec<Known<'a>>, Memory>
-    ensures { IfOk result (λ known. seen known.items ≡ map unplaced ports.now) }
+fn known_ports<'a>(alloc: Global, ports: &'a [Port]) -> Result<Scope<'a>, Memory>
+    ensures { IfOk result (λ known. seen known ≡ map unplaced ports.now) }
 {
-    let mut known = Vec::new(alloc);
+    let mut known = Scope::new(alloc);
     for port in ports {
         let flow = if port.output {
             Flow::Sink
@@ -283,8 +259,12 @@ fn known_ports<'a>(alloc: Global, ports: &'a [Port]) -> Result<Vec<Known<'a>>, M
     Ok(known)
 }
 
-/// Counts a module. The time is linear in the size of its text, but for the look-ups of names.
-pub(crate) fn tally_of(alloc: Global, modules: &[Module], home: &Module) -> Result<Tally, Memory>
+/// Counts a module. The time is linear in the size of its text, but for the look-ups of fields.
+pub(crate) fn tally_of<'a>(
+    alloc: Global,
+    modules: &Directory<'a>,
+    home: &'a Module,
+) -> Result<Tally, Memory>
     ensures signals { IfOk result (λ t. cut t.signals ≡ cut (own_signals modules.now home.now)) }
     ensures parts { IfOk result (λ t. cut t.parts ≡ cut (own_weight modules.now home.now)) }
     ensures targets { IfOk result (λ t. t.instances.items ≡ targets modules.now (body_of home.now.body)) }

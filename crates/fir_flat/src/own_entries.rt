@@ -5,12 +5,12 @@ ghost use Rattle.fir_flat.specs.Elaboration.{port_role, port_entries, entries_of
 ghost use Rattle.fir_flat.specs.Signals.{seen_entries, seen_opening, port_declared};
 ghost use Rattle.fir_flat.specs.Writing.{CountsSignals};
 
+use crate::directory::Directory;
 use crate::kinds::Kind;
 use crate::listing::{Listed, full_name, list_block};
-use crate::own::ports_at;
-use crate::own_body::{body_at, name_ports};
+use crate::own_body::name_ports;
 use crate::signals::{Declared, Entry, Opening, put_kind_signals};
-use fir_ast::{Module, Port};
+use fir_ast::Port;
 use net_core::Role;
 use std::alloc::Global;
 use tb_base::Memory;
@@ -54,23 +54,23 @@ fn list_ports(
 
 /// What an instance declares itself, in text order: its signals, and the instances in it. The time
 /// is linear in the size of the module's text and in the length of the signals' names, but for the
-/// look-ups of names.
+/// look-ups of fields.
 pub(crate) fn list_own(
     alloc: Global,
-    modules: &[Module],
+    modules: &Directory,
     counts: &[u64],
     opening: &Opening,
 ) -> Result<Vec<Entry>, Memory>
     requires { CountsSignals modules.now counts.now }
     ensures { IfOk result (λ es. seen_entries es.items ≡ entries_of modules.now (seen_opening opening.now)) }
 {
-    let ports = ports_at(modules, opening.target);
+    let ports = modules.ports_at(opening.target);
     let mut entries = Vec::new(alloc);
     list_ports(alloc, opening, ports, &mut entries)?;
     let mut names = name_ports(alloc, ports, opening.first)?;
     let next = names.next;
     let mut listed = Listed { next, entries };
-    let body = body_at(modules, opening.target);
+    let body = modules.body_at(opening.target);
     let prefix = opening.prefix.bytes();
     list_block(
         alloc,

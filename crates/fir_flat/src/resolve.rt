@@ -1,14 +1,16 @@
 //! Expressions of the text, with their names and places looked up.
 ghost use Rattle.std.specs.Prelude.{◌≡◌, ◌++◌, ◌∷◌, [], ℕ, List, map, IfOk, OnOk};
 ghost use Rattle.net_core.specs.declared.tree.GroundExpr.TheVariants as to;
-ghost use Rattle.fir_flat.specs.Values.{Value, value, named, field_of, element_of, inside, indexed, chosen, operand, computed, number};
-ghost use Rattle.fir_flat.specs.Kinds.{kind_shape, bound_of, seen};
+ghost use Rattle.fir_flat.specs.Values.{Value, value, named, bound_named, field_of, in_place, element_of, inside, indexed, chosen, operand, computed, number};
+ghost use Rattle.fir_flat.specs.Kinds.{kind_shape, bound_of, seen, Finds};
+ghost use Rattle.fir_flat.specs.Shapes.{FieldPlace};
 ghost use Rattle.fir_flat.specs.Resolving.{resolved, Given, SignsElements, plain_value};
 
 use crate::counts::exact;
-use crate::kinds::{Flow, Kind, Known, known_named};
+use crate::kinds::{Flow, Kind, Known, Place};
 use crate::partners::partners_of;
 use crate::parts::parts_of_kind;
+use crate::scope::Scope;
 use crate::weights::has_sign;
 use crate::worth::{Worth, times};
 use fir_ast::Expr;
@@ -32,22 +34,24 @@ struct Operands {
     worths: Vec<Worth>,
 }
 
-/// Looks up the names and places of an expression. The time is linear in its size, but for the
-/// look-ups of names and fields.
+/// Looks up the names and places of an expression. The time is linear in its size, but for fields of
+/// what isn't a declared name, which are gone over.
 #[cycle(resolve)]
 pub(crate) fn resolve<'a>(
     alloc: Global,
-    known: &[Known<'a>],
+    known: &Scope<'a>,
     expr: &Expr,
 ) -> Result<Resolved<'a>, Memory>
     ensures { IfOk result (λ r. resolved r ≡ value (seen known.now) expr.now) }
 {
     match expr {
-        Expr::Ident(name) => Ok(resolve_name(known_named(known, name.bytes()))),
-        Expr::Part(of, name) => {
-            let of = resolve(alloc, known, of.get())?;
-            resolve_field(alloc, of, name.bytes())
-        }
+        Expr::Ident(name) => Ok(resolve_name(known.find(name.bytes()))),
+        Expr::Part(of, name) => match of.get() {
+            Expr::Ident(bundle) => {
+                resolve_field_named(alloc, known, bundle.bytes(), name.bytes())
+            }
+            of => resolve_field(alloc, resolve(alloc, known, of)?, name.bytes()),
+        },
         Expr::At(of, place) => {
             let of = resolve(alloc, known, of.get())?;
             resolve_element(alloc, of, *place)
@@ -85,7 +89,7 @@ pub(crate) fn resolve<'a>(
 #[cycle(resolve)]
 fn resolve_operand<'a>(
     alloc: Global,
-    known: &[Known<'a>],
+    known: &Scope<'a>,
     args: &[Expr],
     k: usize,
 ) -> Result<Resolved<'a>, Memory>
@@ -107,11 +111,7 @@ fn resolve_operand<'a>(
 }
 
 #[cycle(resolve)]
-fn resolve_operands<'a>(
-    alloc: Global,
-    known: &[Known<'a>],
-    args: &[Expr],
-) -> Result<Operands, Memory>
+fn resolve_operands<'a>(alloc: Global, known: &Scope<'a>, args: &[Expr]) -> Result<Operands, Memory>
     ensures { IfOk result (λ o. Given (map (value (seen known.now)) args.now) o) }
 {
     let mut operands = Operands {
@@ -167,10 +167,14 @@ fn part_behind<'a>(
     })
 }
 
-fn resolve_field<'a>(alloc: Global, of: Resolved<'a>, name: &[u8]) -> Result<Resolved<'a>, Memory>
-    ensures { IfOk result (λ r. resolved r ≡ field_of name.now (resolved of.entry)) }
+/// A field of an expression, at its place.
+fn put_in_place<'a>(
+    alloc: Global,
+    of: Resolved<'a>,
+    place: Place<'a>,
+) -> Result<Resolved<'a>, Memory>
+    ensures { (f : FieldPlace) → Finds f place.entry → IfOk result (λ r. resolved r ≡ in_place f (resolved of.entry)) }
 {
-    let place = of.kind.field(name);
     let flow = if place.flip {
         of.flow.turned()
     } else {
@@ -178,6 +182,27 @@ fn resolve_field<'a>(alloc: Global, of: Resolved<'a>, name: &[u8]) -> Result<Res
     };
     let before = exact(place.before)?;
     part_behind(alloc, of, place.of, flow, before)
+}
+
+/// A field of an expression. The time is linear in the size of its type's text.
+fn resolve_field<'a>(alloc: Global, of: Resolved<'a>, name: &[u8]) -> Result<Resolved<'a>, Memory>
+    ensures { IfOk result (λ r. resolved r ≡ field_of name.now (resolved of.entry)) }
+{
+    let place = of.kind.field(name);
+    put_in_place(alloc, of, place)
+}
+
+/// A field of a declared name. The time is that of a look-up.
+fn resolve_field_named<'a>(
+    alloc: Global,
+    known: &Scope<'a>,
+    bundle: &[u8],
+    name: &[u8],
+) -> Result<Resolved<'a>, Memory>
+    ensures { IfOk result (λ r. resolved r ≡ field_of name.now (named (bound_named bundle.now (seen known.now)))) }
+{
+    let place = known.field(bundle, name);
+    put_in_place(alloc, resolve_name(known.find(bundle)), place)
 }
 
 /// The number in 32 bits. A greater one is a want of memory, as in `plus`.

@@ -4,14 +4,16 @@
 //! lengths: all end at one past the greatest limit.
 ghost use Rattle.std.specs.Prelude.{◌≡◌, ℕ, ◌+◌, ◌*◌, nat_eq, if◌then◌else◌, List, map};
 ghost use Rattle.tb_base.specs.Row.{row_signed};
-ghost use Rattle.fir_flat.specs.Shapes.{field_named, element, elements};
+ghost use Rattle.fir_flat.specs.Shapes.{FieldPlace, field_named, element, elements};
+ghost use Rattle.fir_flat.specs.Values.{bound_named};
 ghost use Rattle.fir_flat.specs.Measures.{Measure, measure, field_measure, part_measure, index_measure, applied_measure};
 ghost use Rattle.fir_flat.specs.declared.kinds.Flow.TheVariants.{Fixed};
 ghost use Rattle.fir_flat.specs.Counts.{cut};
-ghost use Rattle.fir_flat.specs.Kinds.{kind_shape, seen, Weighs, Gathers, with_operand};
+ghost use Rattle.fir_flat.specs.Kinds.{kind_shape, seen, Finds, Weighs, Gathers, with_operand, name_measure};
 
 use crate::counts::{product, sum};
-use crate::kinds::{Flow, Kind, Known, known_named};
+use crate::kinds::{Flow, Kind, Known, Place};
+use crate::scope::Scope;
 use fir_ast::Expr;
 use tb_base::Op;
 
@@ -49,15 +51,18 @@ impl<'a> Operands<'a> {
     }
 }
 
-/// Weighs an expression. The time is linear in the size of the expression, but for the look-ups of
-/// names and fields.
+/// Weighs an expression. The time is linear in the size of the expression, but for fields of what
+/// isn't a declared name, which are gone over.
 #[cycle(weigh)]
-pub(crate) fn weigh<'a>(known: &[Known<'a>], expr: &Expr) -> Weight<'a>
+pub(crate) fn weigh<'a>(known: &Scope<'a>, expr: &Expr) -> Weight<'a>
     ensures { Weighs (measure (seen known.now) expr.now) result }
 {
     match expr {
-        Expr::Ident(name) => weigh_name(known_named(known, name.bytes())),
-        Expr::Part(of, name) => weigh_field(weigh(known, of.get()), name.bytes()),
+        Expr::Ident(name) => weigh_name(known.find(name.bytes())),
+        Expr::Part(of, name) => match of.get() {
+            Expr::Ident(bundle) => weigh_field_named(known, bundle.bytes(), name.bytes()),
+            of => weigh_field(weigh(known, of), name.bytes()),
+        },
         Expr::At(of, _) => weigh_element(weigh(known, of.get())),
         Expr::Index(of, index) => {
             let of = weigh(known, of.get());
@@ -76,7 +81,7 @@ pub(crate) fn weigh<'a>(known: &[Known<'a>], expr: &Expr) -> Weight<'a>
 }
 
 #[cycle(weigh)]
-fn weigh_operands<'a>(known: &[Known<'a>], args: &[Expr]) -> Operands<'a>
+fn weigh_operands<'a>(known: &Scope<'a>, args: &[Expr]) -> Operands<'a>
     ensures { Gathers (map (measure (seen known.now)) args.now) result }
 {
     let none = computed(Kind::Empty, 1);
@@ -128,10 +133,10 @@ fn computed<'a>(kind: Kind<'a>, nodes: u64) -> Weight<'a>
     }
 }
 
-fn weigh_field<'a>(of: Weight<'a>, name: &[u8]) -> Weight<'a>
-    ensures { (m : Measure) → Weighs m of.entry → Weighs (field_measure (field_named name.now m.ty) m) result }
+/// A field of an expression, at its place.
+fn weigh_in_place<'a>(of: Weight<'a>, field: Place<'a>) -> Weight<'a>
+    ensures { (f : FieldPlace) (m : Measure) → Finds f field.entry → Weighs m of.entry → Weighs (field_measure f m) result }
 {
-    let field = of.kind.field(name);
     let flow = if field.flip {
         of.flow.turned()
     } else {
@@ -142,6 +147,21 @@ fn weigh_field<'a>(of: Weight<'a>, name: &[u8]) -> Weight<'a>
         flow,
         ..of
     }
+}
+
+/// A field of an expression. The time is linear in the size of its type's text.
+fn weigh_field<'a>(of: Weight<'a>, name: &[u8]) -> Weight<'a>
+    ensures { (m : Measure) → Weighs m of.entry → Weighs (field_measure (field_named name.now m.ty) m) result }
+{
+    weigh_in_place(of, of.kind.field(name))
+}
+
+/// A field of a declared name. The time is that of a look-up.
+fn weigh_field_named<'a>(known: &Scope<'a>, bundle: &[u8], name: &[u8]) -> Weight<'a>
+    ensures { Weighs (field_measure (field_named name.now (bound_named bundle.now (seen known.now)).ty) (name_measure (bound_named bundle.now (seen known.now)))) result }
+{
+    let place = known.field(bundle, name);
+    weigh_in_place(weigh_name(known.find(bundle)), place)
 }
 
 fn weigh_element<'a>(of: Weight<'a>) -> Weight<'a>

@@ -9,18 +9,19 @@ ghost use Rattle.fir_flat.specs.Statements.{connect_grounds, invalid_grounds};
 ghost use Rattle.fir_flat.specs.Writing.{CountsSignals, AddsWire, AddsNode, AddsRegister, AddsInstance, Puts, IsReset, Writes, WritesBlock};
 
 use crate::counts::exact;
+use crate::directory::Directory;
 use crate::homes::count_at;
 use crate::kinds::{Flow, Kind, Known};
-use crate::own::{place_of, ports_at};
 use crate::partners::partners_of;
 use crate::ports::put_ports;
 use crate::resolve::resolve;
+use crate::scope::Scope;
 use crate::sizes::size_of;
 use crate::statements::{
     Reset, put_connect, put_declarations, put_invalid, put_node, put_register,
 };
 use crate::worth::plus;
-use fir_ast::{Expr, Module, ResetPair, Stmt, Ty};
+use fir_ast::{Expr, ResetPair, Stmt, Ty};
 use net_core::{Ground, GroundExpr};
 use sqlite_items::Items;
 use std::alloc::Global;
@@ -37,10 +38,10 @@ fn write_wire<'a>(
     line: u32,
     name: &'a [u8],
     ty: &'a Ty,
-    known: &mut Vec<Known<'a>>,
+    known: &mut Scope<'a>,
     written: &mut Written,
 ) -> Result<(), Memory>
-    ensures { OnOk result (AddsWire line name.now (shape_of ty.now) known.old.items known.new.items written.old written.new) }
+    ensures { OnOk result (AddsWire line name.now (shape_of ty.now) known.old known.new written.old written.new) }
 {
     let size = exact(size_of(ty))?;
     let first = written.next;
@@ -60,10 +61,10 @@ fn write_node<'a>(
     line: u32,
     name: &'a [u8],
     expr: &Expr,
-    known: &mut Vec<Known<'a>>,
+    known: &mut Scope<'a>,
     written: &mut Written,
 ) -> Result<(), Memory>
-    ensures { OnOk result (AddsNode line name.now (value (seen known.old.items) expr.now) known.old.items known.new.items written.old written.new) }
+    ensures { OnOk result (AddsNode line name.now (value (seen known.old) expr.now) known.old known.new written.old written.new) }
 {
     let value = resolve(alloc, known, expr)?;
     let size = exact(value.kind.size())?;
@@ -82,7 +83,7 @@ fn write_node<'a>(
 /// The reset of a register of a type, looked up.
 fn resolve_reset<'a>(
     alloc: Global,
-    known: &[Known<'a>],
+    known: &Scope<'a>,
     ty: &'a Ty,
     reset: &Option<ResetPair>,
 ) -> Result<Option<Reset<'a>>, Memory>
@@ -109,10 +110,10 @@ fn write_register<'a>(
     name: &'a [u8],
     ty: &'a Ty,
     reset: &Option<ResetPair>,
-    known: &mut Vec<Known<'a>>,
+    known: &mut Scope<'a>,
     written: &mut Written,
 ) -> Result<(), Memory>
-    ensures { OnOk result (AddsRegister line name.now (shape_of ty.now) reset.now known.old.items known.new.items written.old written.new) }
+    ensures { OnOk result (AddsRegister line name.now (shape_of ty.now) reset.now known.old known.new written.old written.new) }
 {
     let size = exact(size_of(ty))?;
     let first = written.next;
@@ -130,18 +131,18 @@ fn write_register<'a>(
 
 fn write_instance<'a>(
     alloc: Global,
-    modules: &'a [Module],
+    modules: &Directory<'a>,
     counts: &[u64],
     name: &'a [u8],
     target: &[u8],
-    known: &mut Vec<Known<'a>>,
+    known: &mut Scope<'a>,
     written: &mut Written,
 ) -> Result<(), Memory>
     requires { CountsSignals modules.now counts.now }
-    ensures { OnOk result (AddsInstance modules.now name.now target.now known.old.items known.new.items written.old written.new) }
+    ensures { OnOk result (AddsInstance modules.now name.now target.now known.old known.new written.old written.new) }
 {
-    let place = place_of(modules, target);
-    let ports = ports_at(modules, place);
+    let place = modules.place_of(target);
+    let ports = modules.ports_at(place);
     let count = exact(count_at(counts, place))?;
     let first = written.next;
     put_ports(alloc, ports, true, false, first, &mut written.body)?;
@@ -160,7 +161,7 @@ fn write_connect(
     line: u32,
     sink: &Expr,
     source: &Expr,
-    known: &[Known],
+    known: &Scope,
     written: &mut Written,
 ) -> Result<(), Memory>
     ensures { OnOk result (Puts written.old written.new (connect_grounds line (value (seen known.now) sink.now) (value (seen known.now) source.now))) }
@@ -174,7 +175,7 @@ fn write_invalid(
     alloc: Global,
     line: u32,
     sink: &Expr,
-    known: &[Known],
+    known: &Scope,
     written: &mut Written,
 ) -> Result<(), Memory>
     ensures { OnOk result (Puts written.old written.new (invalid_grounds line (value (seen known.now) sink.now))) }
@@ -187,14 +188,14 @@ fn write_invalid(
 #[cycle(write)]
 fn write_stmt<'a>(
     alloc: Global,
-    modules: &'a [Module],
+    modules: &Directory<'a>,
     counts: &[u64],
     stmt: &'a Stmt,
-    known: &mut Vec<Known<'a>>,
+    known: &mut Scope<'a>,
     written: &mut Written,
 ) -> Result<(), Memory>
     requires { CountsSignals modules.now counts.now }
-    ensures { OnOk result (Writes modules.now (statement stmt.now) known.old.items known.new.items written.old written.new) }
+    ensures { OnOk result (Writes modules.now (statement stmt.now) known.old known.new written.old written.new) }
 {
     match stmt {
         Stmt::Wire { line, name, ty } => write_wire(*line, name.bytes(), ty, known, written),
@@ -260,15 +261,15 @@ fn write_stmt<'a>(
 #[cycle(write)]
 pub(crate) fn write_block<'a>(
     alloc: Global,
-    modules: &'a [Module],
+    modules: &Directory<'a>,
     counts: &[u64],
     stmts: &'a [Stmt],
-    known: &mut Vec<Known<'a>>,
+    known: &mut Scope<'a>,
     first: u32,
 ) -> Result<Written, Memory>
     requires { CountsSignals modules.now counts.now }
-    ensures written { IfOk result (λ w. WritesBlock modules.now (body_of stmts.now) known.old.items first w) }
-    ensures known { OnOk result (known.new.items ≡ known.old.items) }
+    ensures written { IfOk result (λ w. WritesBlock modules.now (body_of stmts.now) known.old first w) }
+    ensures known { OnOk result (known.new ≡ known.old) }
 {
     let before = known.len();
     let mut written = Written {

@@ -15,7 +15,8 @@ use Rattle.net_core.specs.WidthRules.{Use, uses, wide_signals, use_lines, is_wid
 use Rattle.fir_widths.specs.declared.gather.Asked.{Asked as CodeAsked}
 use Rattle.fir_widths.specs.Gathering.{asked_seen}
 use Rattle.fir_widths.specs.Raise.{MeetsAll, Grows}
-use Rattle.fir_widths.specs.Inferring.{start_width, lesser_of, fault_of}
+use Rattle.fir_widths.specs.Inferring.{lesser_of, fault_of}
+use Rattle.fir_widths.specs.Least.{first_width}
 use Rattle.fir_widths.specs.declared.inference.WidthFault.{WidthFault}
 use Rattle.fir_widths.specs.declared.inference.WidthFault.TheVariants.{TooWide, BadRange}
 use Rattle.fir_widths.proofs.Lines.{lesser_assoc}
@@ -26,7 +27,7 @@ unseen P [] h = All-nil (λ r. P (record { sink = r.sink; source = r.source.now 
 unseen P (r ∷ rs) h = All-cons (λ r. P (record { sink = r.sink; source = r.source.now })) r rs (All-head P _ (asked_seen rs) h) (unseen P rs (All-tail P _ (asked_seen rs) h))
 
 -- where a width starts
-start_at : (is : List SignalInfo) (x : ℕ) → x < length is → slice_index (map start_width is) x ≡ start_width (info is x)
+pub start_at : (is : List SignalInfo) (x : ℕ) → x < length is → slice_index (map first_width is) x ≡ first_width (info is x)
 start_at [] x h = absurd (omega (arith, h))
 start_at (i ∷ is) zero h = refl
 start_at (i ∷ is) (suc x) h = start_at is x (less h)
@@ -34,7 +35,7 @@ start_at (i ∷ is) (suc x) h = start_at is x (less h)
     less : suc x < suc (length is) → x < length is
     less p = omega (arith, p)
 
-start_past : (is : List SignalInfo) (x : ℕ) → length is ≤ x → slice_index (map start_width is) x ≡ 0
+start_past : (is : List SignalInfo) (x : ℕ) → length is ≤ x → slice_index (map first_width is) x ≡ 0
 start_past [] x h = refl
 start_past (i ∷ is) zero h = absurd (omega (arith, h))
 start_past (i ∷ is) (suc x) h = start_past is x (less h)
@@ -42,13 +43,13 @@ start_past (i ∷ is) (suc x) h = start_past is x (less h)
     less : suc (length is) ≤ suc x → length is ≤ x
     less p = omega (arith, p)
 
-fixed : (i : SignalInfo) → is_free i ≡ false → start_width i ≡ given_width i
+pub fixed : (i : SignalInfo) → is_free i ≡ false → first_width i ≡ given_width i
 fixed i h = ap (λ b. cond b 0 (given_width i)) h
 
-loose : (i : SignalInfo) → is_free i ≡ true → start_width i ≡ 0
+loose : (i : SignalInfo) → is_free i ≡ true → first_width i ≡ 0
 loose i h = ap (λ b. cond b 0 (given_width i)) h
 
-below_start : (e : Elab) (v : List ℕ) → Meets e v → Below (map start_width e.signals) v
+pub below_start : (e : Elab) (v : List ℕ) → Meets e v → Below (map first_width e.signals) v
 below_start e v m = record { each = λ x. ⊎_elim (inside x) (outside x) (cases_lt x (length e.signals)) }
   where
     low : (a b : ℕ) → a ≡ 0 → a ≤ b
@@ -57,20 +58,20 @@ below_start e v m = record { each = λ x. ⊎_elim (inside x) (outside x) (cases
     same : (a b c : ℕ) → a ≡ b → c ≡ b → a ≤ c
     same a b c h k = omega (arith, h, k)
 
-    outside : (x : ℕ) → length e.signals ≤ x → slice_index (map start_width e.signals) x ≤ slice_index v x
+    outside : (x : ℕ) → length e.signals ≤ x → slice_index (map first_width e.signals) x ≤ slice_index v x
     outside x h = low _ _ (start_past e.signals x h)
 
-    inside : (x : ℕ) → x < length e.signals → slice_index (map start_width e.signals) x ≤ slice_index v x
+    inside : (x : ℕ) → x < length e.signals → slice_index (map first_width e.signals) x ≤ slice_index v x
     inside x h = ⊎_elim
         (λ t. low _ _ (start_at e.signals x h ∙ loose (info e.signals x) t))
         (λ t. same _ _ _ (start_at e.signals x h ∙ fixed (info e.signals x) t) (m.written x h t))
         (cases_Bool (is_free (info e.signals x)))
 
 -- the solver's result
-pub is_least : (e : Elab) (rs : List CodeAsked) → asked_seen rs ≡ sources (body_of e.body) → (start w : List ℕ) → start ≡ map start_width e.signals
+pub is_least : (e : Elab) (rs : List CodeAsked) → asked_seen rs ≡ sources (body_of e.body) → (start w : List ℕ) → start ≡ map first_width e.signals
     → Grows e.signals rs start w → MeetsAll e.signals w rs → IsLeast e w
 is_least e rs q start w s g m = record {
-  long = g.long ∙ ap (λ (l : List ℕ). length l) s ∙ length-map e.signals start_width;
+  long = g.long ∙ ap (λ (l : List ℕ). length l) s ∙ length-map e.signals first_width;
   meets = record {
     written = λ x h f. g.kept x f ∙ ap (λ (l : List ℕ). slice_index l x) s ∙ start_at e.signals x h ∙ fixed (info e.signals x) f;
     wide = subst (λ (l : List Asked). All (P w) l) q (All-map (P w) (λ r. record { sink = r.sink; source = r.source.now }) rs m);

@@ -8,3 +8,4 @@ pub mod LeastFacts
 pub mod Kept
 pub mod NodeFacts
 pub mod SizedFacts
+pub mod Found

@@ -95,7 +95,7 @@ Grows-raised signals rules r w h = by_test (rises signals r w) refl where
   by_test false e = Grows-refl signals rules w
 
 -- a free width is a signal's
-free_in : (is : List SignalInfo) (x : ℕ) → is_free (info is x) ≡ true → x < length is
+pub free_in : (is : List SignalInfo) (x : ℕ) → is_free (info is x) ≡ true → x < length is
 free_in [] x h = cc
 free_in (i ∷ is) zero h = omega arith
 free_in (i ∷ is) (suc x) h = let l : x < length is = free_in is x h in omega (arith, l)

@@ -1,15 +1,8 @@
 -- The steps of the inference.
-use Rattle.std.specs.Prelude.{ℕ, if◌then◌else◌, Option, Some, None}
-use Rattle.net_core.specs.declared.tree.SignalInfo.{SignalInfo}
-use Rattle.net_core.specs.Signals.{given_width}
-use Rattle.net_core.specs.Widths.{is_free}
+use Rattle.std.specs.Prelude.{ℕ, Option, Some, None}
 use Rattle.net_core.specs.WidthRules.{lesser, WidthRule, too_wide, bad_range}
 use Rattle.fir_widths.specs.declared.inference.WidthFault.{WidthFault}
 use Rattle.fir_widths.specs.declared.inference.WidthFault.TheVariants.{TooWide, BadRange}
-
--- where widths start: as they are written, and at 0
-abbrev pub start_width : SignalInfo → ℕ
-start_width i = if is_free i then 0 else given_width i
 
 -- the lesser of what may be there
 abbrev pub lesser_of : Option ℕ → Option ℕ → Option ℕ

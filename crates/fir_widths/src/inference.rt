@@ -6,7 +6,8 @@ ghost use Rattle.net_core.specs.WidthRules.{width_rule, wide_signals, least_line
 ghost use Rattle.net_core.specs.Formed.{Formed, Sized, with_widths, set_widths};
 ghost use Rattle.fir_widths.specs.Gathering.{asked_seen, uses_seen};
 ghost use Rattle.fir_widths.specs.declared.inference.WidthFault;
-ghost use Rattle.fir_widths.specs.Inferring.{start_width, lesser_of, fault_of};
+ghost use Rattle.fir_widths.specs.Inferring.{lesser_of, fault_of};
+ghost use Rattle.fir_widths.specs.Least.{first_width};
 
 use crate::gather::{Asked, Gathered, Use};
 use crate::judge::judge;
@@ -44,7 +45,7 @@ impl From<Memory> for WidthFault {
 
 /// Where each width starts.
 fn start_widths(alloc: Global, signals: &[SignalInfo]) -> Result<Vec<u8>, Memory>
-    ensures { IfOk result (λ v. v.items ≡ map start_width signals.now) }
+    ensures { IfOk result (λ v. v.items ≡ map first_width signals.now) }
 {
     let mut widths = Vec::with_capacity(alloc, signals.len())?;
     for signal in signals {

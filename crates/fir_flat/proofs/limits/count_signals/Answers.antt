@@ -1,4 +1,4 @@
-use Rattle.std.proofs.Common.{List, ℕ, ◌∙◌, ap, ap₂}
+use Rattle.std.proofs.Common.{List, ℕ, ◌≡◌, ◌∙◌, ap, ap₂}
 use Rattle.fir_ast.specs.declared.tree.Module.{Module}
 use Rattle.fir_flat.specs.Counts.{cut}
 use Rattle.fir_flat.specs.Modules.{place_of, signals_in}
@@ -7,7 +7,8 @@ use Rattle.fir_flat.proofs.limits.count_signals.Goals as goal
 
 pub returns : goal.returns
 returns c =
+    let modules : c.in_ok-modules.modules ≡ c.args.circuit.now.modules = c.in_ok-modules.ensures ∙ c.items.ensures in
     c.in_ok-signals.ensures
-    ∙ ap₂ (λ (ms : List Module) (place : ℕ). cut (signals_in ms place)) c.items-modules.ensures
-    (c.place_of-place.ensures ∙ ap₂ (λ (ms : List Module) (name : List ℕ). place_of ms name) c.items-modules.ensures c.bytes.ensures)
+    ∙ ap₂ (λ (ms : List Module) (place : ℕ). cut (signals_in ms place)) modules
+    (c.place_of-place.ensures ∙ ap₂ (λ (ms : List Module) (name : List ℕ). place_of ms name) modules c.bytes.ensures)
     ∙ ap cut (signals_counted c.requires.ranked.0 c.args.circuit.now c.requires.ranked.1)

@@ -29,7 +29,7 @@ returns c =
           place c.in_ok-inner.ensures;
       next = c.in_ok-listed.ensures ∙ ap (λ n. c.args.listed.now.next + n) count;
       names =
-          names_more c.args.known.now.items c.push-2.new.self.items _ c.in_ok-push-2.ensures.items
-          ∙ ap (λ (ps : List Port). seen c.args.known.now.items ++ bound c.args.name.now (ports_shape ps) Source c.args.listed.now.next ∷ []) ports;
-      kept = kept_more c.args.known.now.items c.push-2.new.self.items _ c.in_ok-push-2.ensures.items;
+          names_more c.args.known.now c.push-2.new.self _ c.in_ok-push-2.ensures
+          ∙ ap (λ (ps : List Port). seen c.args.known.now ++ bound c.args.name.now (ports_shape ps) Source c.args.listed.now.next ∷ []) ports;
+      kept = kept_more c.args.known.now c.push-2.new.self _ c.in_ok-push-2.ensures;
     }

@@ -15,6 +15,6 @@ returns c =
           ∙ ap (λ (n : List ℕ). seen_entries c.args.listed.now.entries.items ++ signals_of c.args.declared n false (kind_shape c.args.kind))
           (c.deref.ensures.value ∙ c.in_ok-full.ensures);
       next = c.in_ok-listed.ensures ∙ ap (λ n. c.args.listed.now.next + n) sized;
-      names = names_more c.args.known.now.items c.push.new.self.items _ c.in_ok-push.ensures.items;
-      kept = kept_more c.args.known.now.items c.push.new.self.items _ c.in_ok-push.ensures.items;
+      names = names_more c.args.known.now c.push.new.self _ c.in_ok-push.ensures;
+      kept = kept_more c.args.known.now c.push.new.self _ c.in_ok-push.ensures;
     }

@@ -4,4 +4,4 @@ use Rattle.fir_flat.specs.Kinds.{seen}
 use Rattle.fir_flat.proofs.own.known_ports.Given as goal
 
 abbrev pub invariant-loop-port : goal.invariant-loop-port
-invariant-loop-port l = seen l.known.items ≡ map unplaced (take l.port-index l.ports)
+invariant-loop-port l = seen l.known ≡ map unplaced (take l.port-index l.ports)

@@ -9,7 +9,7 @@ use Rattle.fir_flat.proofs.own_entries.list_own.Goals as goal
 
 pub returns : goal.returns
 returns c =
-    own_listed c.args.modules.now (seen_opening c.args.opening.now) c.ports_at-ports.result.now c.body_at-body.result.now (seen c.in_ok-names.names.known.items)
+    own_listed c.args.modules.now (seen_opening c.args.opening.now) c.ports_at-ports.result.now c.body_at-body.result.now (seen c.in_ok-names.names.known)
     c.in_ok-names.names.next (seen_entries c.list_ports.new.out.items) (seen_entries c.list_block.new.listed.entries.items)
     c.ports_at-ports.ensures c.body_at-body.ensures
     (c.in_ok-list_ports.ensures
@@ -17,4 +17,4 @@ returns c =
     c.in_ok-names.ensures.known c.in_ok-names.ensures.next
     (c.in_ok-list_block.ensures.listed.entries
     ∙ ap (λ (x : List ℕ). seen_entries c.list_ports.new.out.items
-    ++ entries c.args.modules.now x (seen c.in_ok-names.names.known.items) c.in_ok-names.names.next (body_of c.body_at-body.result.now)) c.bytes-prefix.ensures)
+    ++ entries c.args.modules.now x (seen c.in_ok-names.names.known) c.in_ok-names.names.next (body_of c.body_at-body.result.now)) c.bytes-prefix.ensures)

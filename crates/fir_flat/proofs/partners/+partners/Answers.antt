@@ -2,7 +2,7 @@ use Rattle.std.proofs.Common.{ℕ, List, ◌≡◌, ◌+◌, ◌*◌, ◌++◌, 
 use Rattle.fir_ast.specs.declared.tree.Ty.{Ty}
 use Rattle.fir_ast.specs.declared.tree.Ty.TheViews.{out-Field}
 use Rattle.fir_flat.specs.Shapes.{Shape, shape_of, size, field_named}
-use Rattle.fir_flat.specs.Kinds.{kind_shape}
+use Rattle.fir_flat.specs.Kinds.{kind_shape, Finds}
 use Rattle.fir_flat.specs.Parts.{partners_behind}
 use Rattle.fir_flat.proofs.PartFacts.{field_partners_more, partner_more}
 use Rattle.fir_flat.proofs.partners.+partners.Goals as goal
@@ -10,13 +10,14 @@ use Rattle.fir_flat.proofs.partners.+partners.Goals as goal
 pub put_field_partners-loop-field-preserved : goal.put_field_partners-loop-field-preserved
 put_field_partners-loop-field-preserved t c =
     let u : Shape = kind_shape c.args.other in
+    let place : Finds (field_named c.bytes.result.now u) c.find-place.result = c.find-place.ensures u c.in_ok-others.ensures in
     let name : c.bytes.result.now ≡ (out-Field c.field-item.result).name = c.bytes.ensures in
     let start : c.in_ok-start.start ≡ c.args.before + (field_named c.bytes.result.now u).before
     = subst (λ r. IfOk r (λ n. n ≡ c.args.before + (field_named c.bytes.result.now u).before)) c.in_ok-start.was
-    (c.behind.ensures (field_named c.bytes.result.now u).before c.field-place.ensures.before) in
+    (c.behind.ensures (field_named c.bytes.result.now u).before place.before) in
     field_partners_more c.args.before u c.args.fields.now c.loop-field.field-index c.field-item.result _ _ _ c.loop-field-test.true c.field-item.is
     (c.in_ok-put_partners.ensures
-    ∙ ap₂ (λ (n : ℕ) (of : Shape). c.loop-field.out.items ++ partners_behind n (shape_of (out-Field c.field-item.result).ty) of) start c.field-place.ensures.of
+    ∙ ap₂ (λ (n : ℕ) (of : Shape). c.loop-field.out.items ++ partners_behind n (shape_of (out-Field c.field-item.result).ty) of) start place.of
     ∙ ap (λ (x : List ℕ). c.loop-field.out.items ++ partners_behind (c.args.before + (field_named x u).before) (shape_of (out-Field c.field-item.result).ty) (field_named x u).of) name)
     c.loop-field.invariant
 

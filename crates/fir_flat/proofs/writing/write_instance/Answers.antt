@@ -27,7 +27,7 @@ returns c =
           ∙ ap (λ (ps : List Port). c.args.written.now.body.items ++ declare_ports (λ input. input) c.args.written.now.next (port_leaves ps)) ports;
       next = c.in_ok-written.ensures ∙ ap (λ n. c.args.written.now.next + n) count;
       names =
-          names_more c.args.known.now.items c.push.new.self.items _ c.in_ok-push.ensures.items
-          ∙ ap (λ (ps : List Port). seen c.args.known.now.items ++ bound c.args.name.now (ports_shape ps) Source c.args.written.now.next ∷ []) ports;
-      kept = kept_more c.args.known.now.items c.push.new.self.items _ c.in_ok-push.ensures.items;
+          names_more c.args.known.now c.push.new.self _ c.in_ok-push.ensures
+          ∙ ap (λ (ps : List Port). seen c.args.known.now ++ bound c.args.name.now (ports_shape ps) Source c.args.written.now.next ∷ []) ports;
+      kept = kept_more c.args.known.now c.push.new.self _ c.in_ok-push.ensures;
     }

@@ -1,0 +1,99 @@
+//! The modules of a circuit, by their names and places.
+ghost use Rattle.std.specs.Prelude.{◌≡◌, length, IfOk};
+ghost use Rattle.fir_flat.specs.Modules.{place_of, module_at};
+ghost use Rattle.fir_flat.specs.Scopes.{GivesModules};
+
+use crate::places::NamePlaces;
+use fir_ast::{Module, Port, Stmt};
+use std::alloc::Global;
+use std::marker::Model;
+use tb_base::Memory;
+
+/// The modules, and the place of each name. Contracts see the list of modules.
+#[derive(Drop)]
+pub(crate) struct Directory<'a> {
+    modules: &'a [Module],
+    places: NamePlaces<'a>,
+}
+
+impl<'a> Model for Directory<'a> {
+    ghost use Rattle.std.specs.Prelude.{List};
+    ghost use Rattle.fir_ast.specs.declared.tree.Module.{Module};
+    ghost use Rattle.fir_ast.specs.contracts.tree.Ty as ty;
+    ghost use Rattle.fir_ast.specs.contracts.tree.Expr as expr;
+    ghost use Rattle.fir_ast.specs.contracts.tree.Stmt as stmt;
+    ghost use Rattle.std.specs.Coded.{codes};
+
+    ghost Value = { List Module };
+
+    ghost coded = { Prim.hlevel (codes, ty.the_row.coded, expr.the_row.coded, stmt.the_row.coded) };
+
+    ghost use Rattle.fir_flat.specs.Scopes.{GivesModules};
+
+    ghost view = { λ d. d.modules.now };
+
+    ghost invariant = { λ d. GivesModules 0 d.modules.now d.places };
+}
+
+impl<'a> Directory<'a> {
+    /// The modules with their names' places. The time is linear in their number.
+    pub(crate) fn new(alloc: Global, modules: &'a [Module]) -> Result<Directory<'a>, Memory>
+        ensures { IfOk result (λ d. d ≡ modules.now) }
+    {
+        let places = place_modules(alloc, modules)?;
+        Ok(Directory { modules, places })
+    }
+
+    /// The modules.
+    pub(crate) fn modules(&self) -> &'a [Module]
+        ensures { result.now ≡ self.now }
+    {
+        self.modules
+    }
+
+    /// The place of the module of a name, and the number of modules where there is none. The time is
+    /// that of a look-up.
+    pub(crate) fn place_of(&self, name: &[u8]) -> usize
+        ensures { result ≡ place_of self.now name.now }
+    {
+        match self.places.find(name) {
+            Some(place) => place,
+            None => self.modules.len(),
+        }
+    }
+
+    /// The ports of the module at a place; none past the last.
+    pub(crate) fn ports_at(&self, place: usize) -> &'a [Port]
+        ensures { result.now ≡ (module_at self.now place).ports }
+    {
+        if place < self.modules.len() {
+            self.modules[place].ports.items()
+        } else {
+            &[]
+        }
+    }
+
+    /// The statements of the module at a place; none past the last.
+    pub(crate) fn body_at(&self, place: usize) -> &'a [Stmt]
+        ensures { result.now ≡ (module_at self.now place).body }
+    {
+        if place < self.modules.len() {
+            self.modules[place].body.items()
+        } else {
+            &[]
+        }
+    }
+}
+
+/// Gives each module's name its place: a name means the first module that has it.
+fn place_modules<'a>(alloc: Global, modules: &'a [Module]) -> Result<NamePlaces<'a>, Memory>
+    ensures { IfOk result (GivesModules 0 modules.now) }
+{
+    let mut places = NamePlaces::new(alloc);
+    let mut k = modules.len();
+    while k > 0 {
+        k -= 1;
+        places.give(true, modules[k].name.bytes(), k)?;
+    }
+    Ok(places)
+}

@@ -1,0 +1,14 @@
+pub mod Flows
+pub mod Blocks
+pub mod Spans
+pub mod Infos
+pub mod Placed
+pub mod Pieces
+pub mod RightDeclared
+pub mod Declaring
+pub mod BodyDeclares
+pub mod Times
+pub mod Nesting
+pub mod Whens
+pub mod Roles
+pub mod Whole

@@ -1,0 +1,4 @@
+pub mod Places
+pub mod Nesting
+pub mod Widths
+pub mod Laws

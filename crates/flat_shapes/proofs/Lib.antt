@@ -1,0 +1,15 @@
+pub mod Tests
+pub mod Forms
+pub mod Shapes
+pub mod Apart
+pub mod Grounds
+pub mod Once
+pub mod Parts
+pub mod Matching
+pub mod Leaves
+pub mod Names
+pub mod Ports
+pub mod Later
+pub mod Facts
+pub mod Written
+pub mod Sizes

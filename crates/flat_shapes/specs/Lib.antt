@@ -1,0 +1,9 @@
+pub mod Apart
+pub mod Grounds
+pub mod Parts
+pub mod Matching
+pub mod Sizes
+pub mod Leaves
+pub mod Names
+pub mod Written
+pub mod Examples
