@@ -5,5 +5,6 @@ pub mod MentionFacts
 pub mod LoopFacts
 pub mod DistanceFacts
 pub mod SearchFacts
+pub mod PartFacts
 pub mod OwnFacts
 pub mod ConeFacts

@@ -5,6 +5,7 @@ pub mod Mentions
 pub mod Loops
 pub mod Distances
 pub mod Falling
+pub mod Parts
 pub mod NetGraphs
 pub mod Reaching
 pub mod Uniting

@@ -92,7 +92,8 @@ fn loop_over(alloc: Global, lists: &[Seq<u32>], own: u32) -> Result<Option<Vec<u
 /// It lists the loop that begins at the least signal on any, is shortest, and is least in order of signal numbers among
 /// those. The first signal isn't repeated.
 ///
-/// The time is linear in the signals and their reads; where there is a loop, for each signal up to its first.
+/// The time is linear in the signals and their reads; where there is a loop, in the reads between the circuit's signals
+/// with those over conditions.
 pub fn levels(alloc: Global, net: &Net) -> Result<LevelOrder, GraphFault>
     requires { IsNumbered net.now }
     ensures order { IfOk result (λ order. IsOrder (net_reads net.now) (length net.now.signals) (numbers order)) }

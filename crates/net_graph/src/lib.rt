@@ -18,6 +18,7 @@ mod inputs;
 mod level;
 mod mention;
 mod order;
+mod parts;
 mod readers;
 mod search;
 #[cfg(test)]

@@ -8,6 +8,7 @@ ghost use Rattle.net_graph.specs.Loops.{Leads, IsLoopFrom, IsNamedLoop, IsNamedC
 ghost use Rattle.net_graph.specs.Falling.{Falls, NearerOf, NearestIn, Reads};
 
 use crate::distance::{distances, row};
+use crate::parts::{falls_at, parts_of};
 use crate::readers::readers_of;
 use std::alloc::Global;
 use tb_base::{Memory, Seq};
@@ -103,7 +104,8 @@ fn loop_from(
 
 /// The named loop, where there is one.
 ///
-/// The time is linear in the numbers and their reads for each number up to the first of that loop.
+/// The time is linear in the numbers and their reads: with the parts that are found, the first number that is searched
+/// from is on a loop.
 pub(crate) fn least_loop(alloc: Global, lists: &[Seq<u32>]) -> Result<Option<Vec<u32>>, Memory>
     requires few { length lists.now < 2 ^ 32 }
     requires within { Within lists.now }
@@ -111,8 +113,12 @@ pub(crate) fn least_loop(alloc: Global, lists: &[Seq<u32>]) -> Result<Option<Vec
     ensures none { IfOk result (λ found. IfNone found (NoLoops (Reads lists.now))) }
 {
     let readers = readers_of(alloc, lists)?;
+    let parts = parts_of(alloc, lists, &readers)?;
     let far = lists.len() as u32;
     for x in 0..far {
+        if falls_at(lists, &parts, x) {
+            continue;
+        }
         if let Some(found) = loop_from(alloc, lists, &readers, far, x)? {
             return Ok(Some(found));
         }

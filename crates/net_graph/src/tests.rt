@@ -1,4 +1,5 @@
 use crate::order::furthest_order;
+use crate::parts::parts_of;
 use crate::readers::readers_of;
 use std::alloc::Global;
 use std::test::Fail;
@@ -43,6 +44,21 @@ fn a_loop_is_left_out(rt: HostRuntime) -> Result<(), Fail> {
             .ok()
             .ok_or("no memory")?;
         assert!(rt; order.as_slice() == [2].as_slice());
+    }
+    Ok(())
+}
+
+#[test]
+fn a_loop_has_one_part(rt: HostRuntime) -> Result<(), Fail> {
+    let lists = three(rt.alloc(), [Some(1), Some(0), Some(0)])
+        .ok()
+        .ok_or("no memory")?;
+    if lists.len() < 4 {
+        let readers = readers_of(rt.alloc(), &lists).ok().ok_or("no memory")?;
+        let parts = parts_of(rt.alloc(), &lists, &readers)
+            .ok()
+            .ok_or("no memory")?;
+        assert!(rt; parts.as_slice() == [0, 0, 2].as_slice());
     }
     Ok(())
 }

@@ -1,5 +1,6 @@
 -- The net that the code builds, and what its equations are.
 use Rattle.std.proofs.Common.{◌≡◌, ◌∙◌, sym, ap, subst, ℕ, zero, suc, ◌+◌, ◌<◌, ◌≤◌, ◌++◌, List, [], ◌∷◌, true, length, get_or, map, arith, refl, length-append, append_assoc}
+use Rattle.std.specs.List.{Contains}
 use Rattle.std.proofs.lemmas.List.{get_or_append_left}
 use Rattle.std.proofs.Math.Seq.{get_or-append_seam}
 use Rattle.net_core.specs.declared.tree.GroundExpr.{GroundExpr}
@@ -15,8 +16,10 @@ use Rattle.net_core.specs.Formed.{Formed}
 use Rattle.net_resolve.specs.Joint.{or_none}
 use Rattle.net_resolve.specs.Resolved.{Each, asked, condition_signal}
 use Rattle.net_resolve.specs.Pass.{equation_of, equations_from, condition_equation}
+use Rattle.net_resolve.specs.Sources.{circuit_expressions}
 use Rattle.net_resolve.proofs.Resolving.{table_of, reset_at, number_at, equation_at, length-equations}
 use Rattle.net_resolve.proofs.AskedFacts.{asked_each}
+use Rattle.net_resolve.proofs.SourceFacts.{uses_stand}
 
 -- the number of the first reset
 abbrev pub first_reset : Elab → ℕ
@@ -86,6 +89,7 @@ pub record Cond (e : Elab) (net : Net) (k : ℕ) (c : GroundExpr) : Type 0 where
   pub made : nets.equation net k ≡ condition_equation c
   pub known : info net.signals k ≡ condition_signal
   pub over : (y : ℕ) → mentions c y ≡ true → y < length e.signals
+  pub stands : Contains (circuit_expressions e) c
 
 length-map : {A : Type 0} (f : GroundExpr → A) (cs : List GroundExpr) → length (map f cs) ≡ length cs
 length-map f [] = refl
@@ -117,14 +121,16 @@ conds_of e net b f =
     (each_behind condition_equation no_equation (own_equations e) (asked e)) in
     let q = each_behind (λ c. condition_signal) no_info e.signals (asked e) in
     let o = asked_each (λ c. (y : ℕ) → mentions c y ≡ true → y < n) e n (λ k d l r. f.read k d l) in
+    let s = asked_each (Contains (circuit_expressions e)) e n (λ k d l r. uses_stand e k d l) in
     each_to _ (Cond e net) n (asked e) (λ k c h. record {
       from = h.0.0;
       below = subst (λ l. k < l) (sym (length-net e net b)) h.0.1.1;
       made = ap (λ l. get_or l k no_equation) b.equations ∙ h.1.0.0;
       known = ap (λ l. get_or l k no_info) b.signals ∙ h.0.1.0;
-      over = h.1.1;
+      over = h.1.1.0;
+      stands = h.1.1.1;
     })
-    (each_and _ _ n (asked e) (each_and _ _ n (asked e) (each_from n n (asked e) (same n)) q) (each_and _ _ n (asked e) p o))
+    (each_and _ _ n (asked e) (each_and _ _ n (asked e) (each_from n n (asked e) (same n)) q) (each_and _ _ n (asked e) p (each_and _ _ n (asked e) o s)))
   where
     same : (m : ℕ) → m ≤ m
     same m = omega arith

@@ -14,5 +14,6 @@ pub mod ReadsFacts
 pub mod Resolving
 pub mod Seen
 pub mod Sound
+pub mod SourceFacts
 pub mod Steps
 pub mod Tops

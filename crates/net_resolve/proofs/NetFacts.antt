@@ -1,7 +1,7 @@
 -- What the code builds is the net.
 use Rattle.std.proofs.Common.{◌≡◌, ◌∙◌, sym, ap, subst, ℕ, ◌+◌, ◌-◌, ◌<◌, ◌≤◌, ◌^◌, ◌++◌, List, [], ◌∷◌, Option, Some, None, is_some, Bool, true, false, cond, length, map, arith, refl, ⊎_elim, Result, Ok, Err}
 use Rattle.std.specs.Prelude.{IfOk, OnOk}
-use Rattle.std.specs.List.{All}
+use Rattle.std.specs.List.{All, Contains}
 use Rattle.std.proofs.lemmas.Bool.{cases_order}
 use Rattle.std.proofs.lemmas.List.Elements.{All-head, All-tail, All-nil, All-cons}
 use Rattle.tb_base.proofs.Words.{low_bits-lt}
@@ -28,13 +28,16 @@ use Rattle.net_resolve.specs.Joint.{or_none}
 use Rattle.net_resolve.specs.Walk.{found, leaving, inner}
 use Rattle.net_resolve.specs.Resets.{resets}
 use Rattle.net_resolve.specs.Resolved.{asked, condition_signal, reset_signal, resets_from, InWidth, HasKind, NetOf}
+use Rattle.net_resolve.specs.Sources.{circuit_expressions, choice_expressions, equation_expressions}
 use Rattle.net_resolve.specs.Pass.{equation_of, equations_from, is_open, first_open, condition_equation}
 use Rattle.net_resolve.proofs.Homes.{place}
 use Rattle.net_resolve.proofs.Bounds.{Over}
 use Rattle.net_resolve.proofs.Tops.{Topped, seen_topped, read_under}
 use Rattle.net_resolve.proofs.Sound.{OneBits, is_one_bit, uses_fit}
-use Rattle.net_resolve.proofs.AskedFacts.{asked_each}
-use Rattle.net_resolve.proofs.Resolving.{table_of, reset_at, reset_is, seen_of, open_first, number_at, resets_alike}
+use Rattle.net_resolve.proofs.AskedFacts.{OnReset, reset_uses_of, asked_each}
+use Rattle.net_resolve.proofs.SourceFacts.{Of, uses_stand, seen_holds, kind_holds}
+use Rattle.net_resolve.proofs.Fits.{one_take}
+use Rattle.net_resolve.proofs.Resolving.{table_of, reset_at, reset_is, seen_of, table_fits, open_first, number_at, resets_alike}
 use Rattle.net_resolve.proofs.Built.{Built, Cond, conds_of, first_reset, info_own, equation_own, length-net, length-made, each_to, each_get}
 use Rattle.net_resolve.proofs.Meaning.{behind_own, met, meets, next}
 use Rattle.net_resolve.proofs.ReadsFacts.{own_reads, cond_reads, reads_no_more, reads_no_less}
@@ -172,6 +175,27 @@ within e net b f x y = by_side e net b f (λ z. net_reads net z y ≡ true → y
     step z true h = cc
     step z false h = read_under (length net.signals) y (seen_of e z) (top z) h
 
+-- whatever stands in an equation stands in the circuit
+own_sources : (e : Elab) (net : Net) → Built e net → Formed e → (x : ℕ) → x < length e.signals → All (Contains (circuit_expressions e)) (equation_expressions (nets.equation net x))
+own_sources e net b f x l =
+    let P = Contains (circuit_expressions e) in
+    let body = body_of e.body in
+    let n = length e.signals in
+    let s : All P (choice_expressions (seen_of e x)) = seen_holds P x (place x n body) (own x body) Rattle.net_core.specs.Nets.nothing (own_uses (Of P) x body (uses_stand e)) (All-nil P) in
+    let r : OnReset (Of P) (reset_at body x) = subst (OnReset (Of P)) (sym (reset_is e f x l)) (reset_uses_of (Of P) x body (uses_stand e)) in
+    subst (λ q. All P (equation_expressions q)) (sym (equation_own e net b x l))
+    (kind_holds P (info e.signals x).role (or_none (table_of n body x)) (reset_at body x) (number_at (reset_at body) 0 (first_reset e) e.signals x)
+    (subst (λ c. All P (choice_expressions c)) (sym (table_fits e f x l).list) s) r)
+
+cond_sources : (e : Elab) (net : Net) (k : ℕ) (c : GroundExpr) → Cond e net k c → All (Contains (circuit_expressions e)) (equation_expressions (nets.equation net k))
+cond_sources e net k c d =
+    let P = Contains (circuit_expressions e) in
+    subst (λ q. All P (equation_expressions q)) (sym d.made)
+    (subst (λ t. All P (choice_expressions t)) (sym (one_take (Some c))) (All-cons P c [] d.stands (All-nil P)))
+
+sources : (e : Elab) (net : Net) → Built e net → Formed e → (x : ℕ) → x < length net.signals → All (Contains (circuit_expressions e)) (equation_expressions (nets.equation net x))
+sources e net b f = by_side e net b f (λ x. All (Contains (circuit_expressions e)) (equation_expressions (nets.equation net x))) (own_sources e net b f) (cond_sources e net)
+
 -- values within the signals' widths
 
 role_within : (role : Role) (i r v top : ℕ) → (is_input role ≡ true → i < top) → (is_register role ≡ true → r < top) → v < top → by_role role i r v < top
@@ -246,6 +270,7 @@ net_of e net b s = record {
   given = all_given e net b s;
   equations = length-made e net b;
   kinds = kinds e net b s.formed;
+  sources = sources e net b s.formed;
   meets = λ ins regs V w. (
     (λ m. met e net b s.formed ins regs V (one_bits e s V (met_narrow e net b ins regs V w m)) m),
     (λ p. meets e net b s.formed ins regs V (one_bits e s V (settled_narrow e ins regs V w p.0)) p.0 p.1),

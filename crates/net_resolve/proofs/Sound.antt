@@ -33,19 +33,19 @@ OneBits e V = Each (λ k c. is_one_bit (value e.signals c V)) (length e.signals)
 abbrev pub shape_of : Word → Shape
 shape_of w = record { signed = w.signed; width = w.width }
 
-given_at : (signals : List SignalInfo) (x : ℕ) → slice_index (map given_width signals) x ≡ given_width (info signals x)
+pub given_at : (signals : List SignalInfo) (x : ℕ) → slice_index (map given_width signals) x ≡ given_width (info signals x)
 given_at [] zero = refl
 given_at [] (suc x) = refl
 given_at (i ∷ is) zero = refl
 given_at (i ∷ is) (suc x) = given_at is x
 
-shapes_at : (ws : List Word) (k : ℕ) → shape_at (map shape_of ws) k ≡ shape_of (word_at ws k)
+pub shapes_at : (ws : List Word) (k : ℕ) → shape_at (map shape_of ws) k ≡ shape_of (word_at ws k)
 shapes_at [] zero = refl
 shapes_at [] (suc k) = refl
 shapes_at (w ∷ ws) zero = refl
 shapes_at (w ∷ ws) (suc k) = shapes_at ws k
 
-widths_at : (ws : List Word) (k : ℕ) → slice_index (widths (map shape_of ws)) k ≡ (word_at ws k).width
+pub widths_at : (ws : List Word) (k : ℕ) → slice_index (widths (map shape_of ws)) k ≡ (word_at ws k).width
 widths_at [] zero = refl
 widths_at [] (suc k) = refl
 widths_at (w ∷ ws) zero = refl
@@ -56,7 +56,7 @@ widths_of [] = refl
 widths_of (w ∷ ws) = ap (λ ns. w.width ∷ ns) (widths_of ws)
 
 -- below 129 nothing is cut
-uncut : (n : ℕ) → (min 129 n == 129) ≡ false → min 129 n ≡ n
+pub uncut : (n : ℕ) → (min 129 n == 129) ≡ false → min 129 n ≡ n
 uncut n h = step (nat_le 129 n) refl
   where
     apart : min 129 n ≢ 129
@@ -206,15 +206,24 @@ no_uses test (u ∷ us) h = step (test u) refl (no_uses test us) h
 narrow_enough : (n : ℕ) → nat_lt 1 n ≡ false → n ≤ 1
 narrow_enough n h = ltb-false 1 n h
 
+-- the rules hold of each expression
+pub none_wide : (e : Elab) → Sized e → All (λ u. is_wide e.signals (given_widths e) u ≡ false) (uses (body_of e.body))
+none_wide e s =
+    let w = given_widths e in
+    let none = no_rules (least_line (too_wide_lines e w)) (least_line (bad_range_lines e w)) s.ruled in
+    no_uses (is_wide e.signals w) (uses (body_of e.body)) (no_back (wide_signals e.signals w) (use_lines (is_wide e.signals w) (uses (body_of e.body))) (no_lines (too_wide_lines e w) none.0))
+
+pub none_bad : (e : Elab) → Sized e → All (λ u. is_bad e.signals (given_widths e) u ≡ false) (uses (body_of e.body))
+none_bad e s =
+    let w = given_widths e in
+    let none = no_rules (least_line (too_wide_lines e w)) (least_line (bad_range_lines e w)) s.ruled in
+    no_uses (is_bad e.signals w) (uses (body_of e.body)) (no_lines (bad_range_lines e w) none.1)
+
 -- of each expression of a statement: where it is a condition, its value fits one bit
 pub uses_fit : (e : Elab) → Sized e → (V : ℕ → ℕ) → All (λ u. (y : ℕ) → mentions u.expr y ≡ true → V y < 2 ^ given_width (info e.signals y)) (uses (body_of e.body))
     → All (λ u. u.condition ≡ true → is_one_bit (value e.signals u.expr V)) (uses (body_of e.body))
 uses_fit e s V r k d l =
-    let w = given_widths e in
-    let none = no_rules (least_line (too_wide_lines e w)) (least_line (bad_range_lines e w)) s.ruled in
-    let wide = no_uses (is_wide e.signals w) (uses (body_of e.body)) (no_back (wide_signals e.signals w) (use_lines (is_wide e.signals w) (uses (body_of e.body))) (no_lines (too_wide_lines e w) none.0)) k d l in
-    let bad = no_uses (is_bad e.signals w) (uses (body_of e.body)) (no_lines (bad_range_lines e w) none.1) k d l in
-    go (get_or (uses (body_of e.body)) k d) (r k d l) wide bad
+    go (get_or (uses (body_of e.body)) k d) (r k d l) (none_wide e s k d l) (none_bad e s k d l)
   where
     thin : (c b n : Bool) → c ≡ true → (b || (c && n)) ≡ false → n ≡ false
     thin c b n g h = let p = or_parts b (c && n) h in cc (g, p.1)

@@ -8,10 +8,12 @@ use Rattle.net_core.specs.declared.tree.Equation.TheVariants as equation
 use Rattle.net_core.specs.Body.{body_of}
 use Rattle.net_core.specs.Last.{own, reset_of}
 use Rattle.net_core.specs.Nets.{net_reads}
+use Rattle.net_core.specs.Nets as nets
 use Rattle.net_core.specs.Examples.{s, r, adder, delay, later_wins, overridden, left_open}
 use Rattle.net_resolve.specs.Resolved.{asked, condition_signal}
 use Rattle.net_resolve.specs.Walk.{found}
 use Rattle.net_resolve.specs.Pass.{equation_of}
+use Rattle.net_resolve.specs.Sources.{circuit_expressions, equation_expressions}
 
 -- the net of the circuit in which `out` gets `a`, and where `c` is 1 it gets `b`
 abbrev pub later_net : Net
@@ -44,3 +46,7 @@ pub record NetExamples : Type 0 where
   pub not_directly : net_reads later_net 3 2 ≡ false
   pub its_condition : net_reads later_net 3 4 ≡ true
   pub over_it : net_reads later_net 4 2 ≡ true
+  -- the expressions of the circuit, those in the equation of `out`, and the one in that of the condition's signal
+  pub in_circuit : circuit_expressions later_wins ≡ r 0 ∷ r 2 ∷ r 1 ∷ []
+  pub in_output : equation_expressions (nets.equation later_net 3) ≡ r 0 ∷ r 1 ∷ []
+  pub in_condition : equation_expressions (nets.equation later_net 4) ≡ r 2 ∷ []

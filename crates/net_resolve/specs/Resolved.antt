@@ -1,6 +1,6 @@
 -- The net of an elaborated circuit: its conditions have signals of their own, and it means the same.
 use Rattle.std.specs.Prelude.{◌≡◌, ◌↔◌, ℕ, ◌+◌, ◌<◌, ◌≤◌, ◌^◌, true, false, List, [], ◌∷◌, ◌++◌, Option, Some, is_some, map, length}
-use Rattle.std.specs.List.{All}
+use Rattle.std.specs.List.{All, Contains}
 use Rattle.net_core.specs.declared.tree.SignalInfo.{SignalInfo}
 use Rattle.net_core.specs.declared.tree.Role.{Role}
 use Rattle.net_core.specs.declared.tree.Role.TheVariants.{Input, Node, Reg}
@@ -18,6 +18,7 @@ use Rattle.net_core.specs.Settled.{Settled, edge}
 use Rattle.net_core.specs.Depends.{reads_of}
 use Rattle.net_core.specs.Nets.{MeetsNet, net_reads, next_value}
 use Rattle.net_core.specs.Nets as nets
+use Rattle.net_resolve.specs.Sources.{circuit_expressions, equation_expressions}
 
 -- something holds of each expression and its number, where n is the number of the first
 abbrev pub Each : (ℕ → GroundExpr → Type 0) → ℕ → List GroundExpr → Type 0
@@ -71,6 +72,8 @@ pub record NetOf (e : Elab) (net : Net) : Type 0 where
   -- an equation for each
   pub equations : length net.equations ≡ length net.signals
   pub kinds : (x : ℕ) → x < length net.signals → HasKind (info net.signals x).role (nets.equation net x)
+  -- whatever expression stands in one stands in the circuit
+  pub sources : (x : ℕ) → x < length net.signals → All (Contains (circuit_expressions e)) (equation_expressions (nets.equation net x))
   -- a valuation meets them exactly where it is settled and the conditions' signals have their values
   pub meets : (ins regs V : ℕ → ℕ) → InWidth e ins regs → MeetsNet net ins regs V ↔ (Settled e ins regs V × Conditions e V)
   -- at the edge each register gets what the circuit says

@@ -218,7 +218,8 @@ fn net_of(
 ///
 /// Its first signals are the circuit's. Behind them stands one for each condition of a When, in the order of the body,
 /// then one for each reset, in the order of the registers. Where the circuit is sized, a valuation meets the net's
-/// equations exactly where it is settled and gives these signals the values of their conditions.
+/// equations exactly where it is settled and gives these signals the values of their conditions. Whatever expression
+/// stands in an equation stands in the circuit.
 ///
 /// `NotInitialised` is answered exactly where some branch gives a sink that is no register neither a connect nor an
 /// invalidation, and names the least such signal. `Memory` also tells of a circuit with 2^32 conditions.

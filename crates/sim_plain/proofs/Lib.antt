@@ -1,7 +1,9 @@
-pub mod BoolFacts
-pub mod PortsPass
-pub mod ConnectsPass
-pub mod OncePass
-pub mod BuiltIs
-pub mod InPlace
-pub mod Examples
+pub mod Choosing
+pub mod Delay
+pub mod Designs
+pub mod Equations
+pub mod Exact
+pub mod Fitting
+pub mod Items
+pub mod Pass
+pub mod Showing

@@ -1,5 +1,3 @@
-pub mod Settled
-pub mod DesignOf
-pub mod Steps
-pub mod Seen
-pub mod Sound
+pub mod Examples
+pub mod Ready
+pub mod Words

@@ -1,75 +1,138 @@
 //! The plain engine.
-//!
-//! It keeps a copy of the design's net and one number for each signal. A number at an input is the one that was given
-//! last, cut to the input's width; the numbers at outputs are 0 and no value reads them.
-ghost use Rattle.std.specs.Prelude.{◌≡◌, ℕ, ◌%◌, ◌^◌, IfOk, length, slice_index, slice_set, replicate};
-ghost use Rattle.sim_plain.specs.Settled.{EngineValue, net_in, settled_in};
+ghost use Rattle.std.specs.Prelude.{◌≡◌, IfOk, length, replicate};
+ghost use Rattle.sim_plain.specs.Ready.{Fits, InOrder, Run, numbers};
 
-use crate::design::Design;
-use crate::net::Net;
-use net_core::Signal;
+use crate::settle::{advance, low_bits, renew};
+use crate::words::{number_at, read};
+use net_core::{Engine, Net, Signal};
+use net_design::Design;
 use std::alloc::Global;
 use std::marker::Model;
 use tb_base::{Bits, Memory};
 
-/// A circuit with the numbers of its inputs. Contracts see its net and the list of the numbers.
+/// A net that runs. Contracts see the net, the bits of its inputs and those of its registers.
+///
+/// The values are kept from one call to the next. After a poke or an edge they are stale, and the next call that asks
+/// for a value evaluates all signals once.
 #[derive(Drop)]
 pub struct PlainEngine {
     net: Net,
+    order: Vec<Signal>,
     inputs: Vec<u128>,
+    registers: Vec<u128>,
+    values: Vec<u128>,
+    stale: bool,
 }
 
 impl Model for PlainEngine {
-    ghost use Rattle.sim_plain.specs.Settled.{EngineValue};
+    ghost use Rattle.std.specs.Coded.{codes};
+    ghost use Rattle.net_core.specs.contracts.tree.Choice as choice;
+    ghost use Rattle.net_core.specs.contracts.tree.GroundExpr as expr;
+    ghost use Rattle.sim_plain.specs.Ready.{Run, Runs, numbers};
 
-    ghost Value = { EngineValue };
+    ghost Value = { Run };
 
-    ghost use Rattle.sim_plain.specs.Seen.{net_seen};
+    ghost coded = { Prim.hlevel (codes, choice.the_row.coded, expr.the_row.coded) };
 
-    ghost view = { λ e. record { net = net_seen e.net; inputs = e.inputs.items } };
+    ghost view = { λ e. record { net = e.net; inputs = e.inputs.items; registers = e.registers.items } };
+
+    ghost invariant = { λ e. Runs e.net (numbers e.order.items) e.inputs.items e.registers.items e.values.items e.stale };
 }
 
 impl PlainEngine {
-    /// An engine of a design whose inputs are all 0. It takes time and memory linear in the number of ports.
+    /// The engine of a design, with all inputs and registers 0. The net and its order are copied: it takes time and memory linear
+    /// in their size.
     pub fn new(alloc: Global, design: &Design) -> Result<PlainEngine, Memory>
-        ensures { IfOk result (λ e. e ≡ record { net = net_in design.now; inputs = replicate (length design.now.ports) 0 }) }
+        ensures { IfOk result (λ e. e ≡ record { net = design.now.net; inputs = replicate (length design.now.net.signals) 0; registers = replicate (length design.now.net.signals) 0 }) }
     {
-        let net = design.net().copy(alloc)?;
-        let inputs = Vec::from_elem(alloc, 0u128, design.ports().len()).map_err(|_| Memory)?;
-        Ok(PlainEngine { net, inputs })
+        PlainEngine::over(alloc, design.net(), design.levels().order())
     }
 
-    /// Gives an input the low bits of `raw`, as many as its width. Nothing else changes.
-    /// A signal past the last one changes nothing.
-    pub fn poke(&mut self, input: Signal, raw: u128)
-        ensures { self.new ≡ record self.old { inputs = slice_set self.old.inputs input.0 (raw % 2 ^ slice_index self.old.net.widths input.0) } }
+    /// An engine of a net, with all inputs and registers 0. The order has each signal of the net once, behind all that
+    /// it reads within a cycle.
+    ///
+    /// The net and the order are copied: it takes time and memory linear in their size.
+    pub fn over(alloc: Global, net: &Net, order: &[Signal]) -> Result<PlainEngine, Memory>
+        requires fits { Fits net.now }
+        requires order { InOrder net.now (numbers order.now) }
+        ensures { IfOk result (λ e. e ≡ record { net = net.now; inputs = replicate (length net.now.signals) 0; registers = replicate (length net.now.signals) 0 }) }
     {
+        let count = net.signals.items().len();
+        let net = net.copy(alloc)?;
+        let order = Vec::from_slice(alloc, order)?;
+        let inputs = Vec::from_elem(alloc, 0u128, count)?;
+        let registers = Vec::from_elem(alloc, 0u128, count)?;
+        let values = Vec::from_elem(alloc, 0u128, count)?;
+        Ok(PlainEngine {
+            net,
+            order,
+            inputs,
+            registers,
+            values,
+            stale: true,
+        })
+    }
+}
+
+impl Engine for PlainEngine {
+    ghost net = { λ e. e.net };
+
+    ghost inputs = { λ e. e.inputs };
+
+    ghost registers = { λ e. e.registers };
+
+    /// Takes a constant number of steps.
+    fn poke(&mut self, input: Signal, raw: u128) {
         let x = input.0 as usize;
-        let width = self.net.width(x);
-        if x < self.inputs.len() {
-            self.inputs[x] = Bits::new(width, false, raw).raw();
-        }
+        self.inputs[x] = low_bits(&self.net, x, raw);
+        self.stale = true;
     }
 
-    /// The settled value of a signal, in a constant number of steps. A signal past the last one has no bits.
-    pub fn value(&self, signal: Signal) -> Bits
-        ensures { result ≡ settled_in self.now.net self.now.inputs signal.0 }
-    {
-        self.net.value(self.inputs.as_slice(), signal)
+    /// Takes a constant number of steps, and after a poke or an edge time linear in the size of the net.
+    fn value(&mut self, signal: Signal) -> Bits {
+        renew(
+            &self.net,
+            self.order.as_slice(),
+            self.inputs.as_slice(),
+            self.registers.as_slice(),
+            self.values.as_mut_slice(),
+            self.stale,
+        );
+        self.stale = false;
+        read(
+            self.net.signals.items(),
+            self.values.as_slice(),
+            signal.0 as usize,
+        )
     }
 
-    /// A clock edge. A circuit of the first form has no registers, so nothing changes.
-    pub fn edge(&mut self)
-        ensures { self.new ≡ self.old }
-    {}
+    /// Takes time linear in the size of the net.
+    fn edge(&mut self) {
+        renew(
+            &self.net,
+            self.order.as_slice(),
+            self.inputs.as_slice(),
+            self.registers.as_slice(),
+            self.values.as_mut_slice(),
+            self.stale,
+        );
+        advance(
+            &self.net,
+            self.values.as_slice(),
+            self.registers.as_mut_slice(),
+        );
+        self.stale = true;
+    }
 
-    /// The number of an input, and 0 past the last signal.
-    pub fn input(&self, input: Signal) -> u128
-        ensures { result ≡ slice_index self.now.inputs input.0 }
-    {
-        match self.inputs.as_slice().get(input.0 as usize) {
-            Some(raw) => *raw,
-            None => 0,
-        }
+    fn input(&self, input: Signal) -> u128 {
+        number_at(self.inputs.as_slice(), input.0 as usize)
+    }
+
+    fn state(&self, register: Signal) -> Bits {
+        read(
+            self.net.signals.items(),
+            self.registers.as_slice(),
+            register.0 as usize,
+        )
     }
 }

@@ -1,23 +1,21 @@
-//! A small net of a circuit in the first form, and an engine that evaluates it.
+//! The plain engine of a net.
 //!
-//! [`build`] makes a [`Design`] of a circuit's tree: its name, its table of ports, and an equation for each port.
-//! The signals of the net are the ports, numbered by their places. A [`PlainEngine`] keeps the number of each input
-//! and works out a signal's value when it is asked for it.
+//! [`PlainEngine`] keeps a net, the numbers of its inputs and registers, and a value for each signal. After a change it
+//! evaluates all signals once, in an order in which each stands behind what it reads, when a value is first asked for.
+//!
+//! It takes the net of any sized circuit ([`sized_nets_fit`]), in any such order ([`orders_serve`]).
 #![tactic(auto)]
 
-mod design;
-mod draft;
+mod choices;
 mod engine;
-mod equation;
 mod laws;
-mod net;
-mod passes;
+mod settle;
+mod words;
 
-pub use design::Design;
+pub use choices::chosen_value;
 pub use engine::PlainEngine;
-pub use equation::Equation;
-pub use laws::design_where_rules_hold;
-pub use passes::build;
+pub use laws::{orders_serve, sized_nets_fit};
+pub use words::eval;
 
 #[cfg(test)]
 mod tests;

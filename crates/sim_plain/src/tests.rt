@@ -1,74 +1,140 @@
+ghost use Rattle.std.specs.Prelude.{◌≡◌, IfOk, Some, [], ◌∷◌, false};
+ghost use Rattle.sim_plain.specs.Examples.{delay, of_eight, takes};
+
 use super::*;
-use fir_first::{Circuit, Expr, FormFault, Module, Port, Stmt};
-use net_core::Signal;
+use net_core::{Choice, Engine, Equation, GroundExpr, Net, Role, Signal, SignalInfo};
+use sqlite_items::Items;
+use std::alloc::Global;
 use std::test::Fail;
-use tb_base::{Name, Seq};
+use tb_base::{Memory, Name, Seq};
 
-fn name(rt: &HostRuntime, text: &[u8]) -> Result<Name, Fail> {
-    Ok(Name::of(text.to_vec(rt.alloc())?))
-}
-
-fn port(rt: &HostRuntime, line: u32, output: bool, text: &[u8], width: u128) -> Result<Port, Fail> {
-    Ok(Port {
-        line,
-        output,
-        name: name(rt, text)?,
-        width,
-    })
-}
-
-fn connect(rt: &HostRuntime, line: u32) -> Result<Stmt, Fail> {
-    Ok(Stmt::Connect {
-        line,
-        sink: name(rt, b"out")?,
-        value: Expr::Add(name(rt, b"a")?, name(rt, b"b")?),
-    })
-}
-
-/// The sum of `a` and `b`, of eight bits each, goes to `out` of nine, by so many connects.
-fn adder(rt: &HostRuntime, connects: u32) -> Result<Circuit, Fail> {
-    let mut ports = Vec::new(rt.alloc());
-    ports.push(port(rt, 3, false, b"a", 8)?)?;
-    ports.push(port(rt, 4, false, b"b", 8)?)?;
-    ports.push(port(rt, 5, true, b"out", 9)?)?;
-    let mut body = Vec::new(rt.alloc());
-    for k in 0..connects {
-        body.push(connect(rt, k)?)?;
+fn signal(alloc: Global, role: Role, width: u8) -> SignalInfo
+    ensures { result ≡ record { name = []; role = role; signed = false; width = Some width; line = 0 } }
+{
+    SignalInfo {
+        name: Name::of(Vec::new(alloc)),
+        role,
+        signed: false,
+        width: Some(width),
+        line: 0,
     }
-    Ok(Circuit {
-        line: 1,
-        name: name(rt, b"Add")?,
-        module: Module {
-            line: 2,
-            name: name(rt, b"Add")?,
-            ports: Seq::of(ports),
-            body: Seq::of(body),
-        },
+}
+
+fn take(source: u32) -> Choice
+    ensures { (takes source) ≡ result ∷ [] }
+{
+    Choice::Take(Some(GroundExpr::Read(Signal(source))))
+}
+
+/// The choices of an equation that takes these signals, one after the other.
+fn takes(alloc: Global, sources: &[u32]) -> Result<Vec<Choice>, Memory> {
+    let mut choices = Vec::new(alloc);
+    for source in sources {
+        choices.push(take(*source))?;
+    }
+    Ok(choices)
+}
+
+/// Two inputs of 8 bits, a condition, and an output that gets the first of them, and the second where the condition is 1.
+fn overridden(alloc: Global) -> Result<Net, Memory> {
+    let mut signals = Vec::new(alloc);
+    signals.push(signal(alloc, Role::Input, 8))?;
+    signals.push(signal(alloc, Role::Input, 8))?;
+    signals.push(signal(alloc, Role::Input, 1))?;
+    signals.push(signal(alloc, Role::Output, 8))?;
+    let mut choices = takes(alloc, &[1, 0])?;
+    choices.push(Choice::When {
+        cond: Signal(2),
+        taken: Items::from_vec(takes(alloc, &[1])?),
+        other: Items::new(alloc),
+    })?;
+    let mut equations = Vec::new(alloc);
+    equations.push(Equation::Input)?;
+    equations.push(Equation::Input)?;
+    equations.push(Equation::Input)?;
+    equations.push(Equation::Comb(Seq::of(choices)))?;
+    Ok(Net {
+        own: 4,
+        signals: Seq::of(signals),
+        equations: Seq::of(equations),
     })
+}
+
+/// The raw bits of the choices' value, where these are the values of the signals.
+fn chosen(net: &Net, x: usize, values: &[u128]) -> Option<u128> {
+    match net.equations.items().get(x) {
+        Some(Equation::Comb(choices)) => {
+            let word = chosen_value(choices.items(), net.signals.items(), values, None)?;
+            Some(word.raw())
+        }
+        _ => None,
+    }
 }
 
 #[test]
-fn an_adder_adds(rt: HostRuntime) -> Result<(), Fail> {
-    let design = build(rt.alloc(), &adder(&rt, 1)?).ok().ok_or("no design")?;
-    assert!(rt; design.name().bytes() == b"Add".as_slice());
-    let out = design.ports().find(b"out").ok_or("no port")?;
-    assert_eq!(rt; out.width, 9);
-    let mut engine = PlainEngine::new(rt.alloc(), &design)
-        .ok()
-        .ok_or("no engine")?;
-    engine.poke(Signal(0), 3);
-    engine.poke(Signal(1), 256 + 4);
-    engine.edge();
-    assert_eq!(rt; engine.input(Signal(1)), 4);
-    assert_eq!(rt; engine.value(out.signal).raw(), 7);
+fn the_last_connect_that_holds_wins(rt: HostRuntime) -> Result<(), Fail> {
+    let net = overridden(rt.alloc()).ok().ok_or("no net")?;
+    assert!(rt; chosen(&net, 3, &[5, 7, 0, 0]) == Some(5));
+    assert!(rt; chosen(&net, 3, &[5, 7, 1, 0]) == Some(7));
     Ok(())
 }
 
+fn of_eight(alloc: Global, role: Role) -> SignalInfo
+    ensures { result ≡ of_eight role }
+{
+    signal(alloc, role, 8)
+}
+
+fn one(alloc: Global, source: u32) -> Result<Seq<Choice>, Memory>
+    ensures { IfOk result (λ c. c ≡ takes source) }
+{
+    let mut choices = Vec::new(alloc);
+    choices.push(take(source))?;
+    Ok(Seq::of(choices))
+}
+
+/// An input of 8 bits, an output that gets the register, and a register that gets the input.
+fn delay(alloc: Global) -> Result<Net, Memory>
+    ensures { IfOk result (λ n. n ≡ delay) }
+{
+    let mut signals = Vec::new(alloc);
+    signals.push(of_eight(alloc, Role::Input))?;
+    signals.push(of_eight(alloc, Role::Output))?;
+    signals.push(of_eight(alloc, Role::Reg))?;
+    let mut equations = Vec::new(alloc);
+    equations.push(Equation::Input)?;
+    equations.push(Equation::Comb(one(alloc, 2)?))?;
+    equations.push(Equation::Reg {
+        next: one(alloc, 0)?,
+    })?;
+    Ok(Net {
+        own: 3,
+        signals: Seq::of(signals),
+        equations: Seq::of(equations),
+    })
+}
+
+fn delay_engine(alloc: Global) -> Result<PlainEngine, Memory>
+    ensures { IfOk result (λ e. e.net ≡ delay) }
+{
+    let net = delay(alloc)?;
+    PlainEngine::over(alloc, &net, &[Signal(0), Signal(2), Signal(1)])
+}
+
 #[test]
-fn an_output_has_one_connect(rt: HostRuntime) -> Result<(), Fail> {
-    for connects in [0, 2] {
-        let design = build(rt.alloc(), &adder(&rt, connects)?);
-        assert!(rt; matches!(design, Err(FormFault::NotInForm)));
-    }
+#[tactic(auto, using(crate::proofs::Delay::delay_register))]
+fn a_register_delays(rt: HostRuntime) -> Result<(), Fail> {
+    let mut engine = delay_engine(rt.alloc()).ok().ok_or("no engine")?;
+    let input = Signal(0);
+    let output = Signal(1);
+    engine.poke(input, 256 + 9);
+    assert_eq!(rt; engine.value(output).raw(), 0);
+    engine.edge();
+    assert_eq!(rt; engine.state(Signal(2)).raw(), 9);
+    engine.poke(input, 4);
+    assert_eq!(rt; engine.value(output).raw(), 9);
+    assert_eq!(rt; engine.input(input), 4);
+    engine.edge();
+    assert_eq!(rt; engine.value(output).raw(), 4);
     Ok(())
 }

@@ -16,4 +16,7 @@ returns c = record {
   not_directly = simp (first_take, one_when, at_read) refl;
   its_condition = simp (first_take, one_when, at_read) refl;
   over_it = simp (first_take, at_read) refl;
+  in_circuit = simp (of_declare, of_set, of_when) refl;
+  in_output = simp (first_take, one_when) refl;
+  in_condition = simp first_take refl;
 }

@@ -1,3 +1,0 @@
-pub mod FirstTree
-pub mod FirstForm
-pub mod Examples

@@ -1,7 +1,0 @@
-use Rattle.std.proofs.Common.{drop}
-use Rattle.sim_net.specs.Ready.{numbers}
-use Rattle.sim_net.proofs.Pass.{Pass}
-use Rattle.sim_net.proofs.settle.settle.Given as goal
-
-abbrev pub invariant-loop-signal : goal.invariant-loop-signal
-invariant-loop-signal l = Pass l.net l.inputs l.registers (numbers (drop l.signal-index l.order)) l.values
