@@ -1,176 +1,183 @@
 -- The grammar of a test's expressions.
 --
 -- From loosest to tightest: at most one comparison, then `|`, `^`, `&`, shifts, `+` and `-`, `*`, a `-` before an operand, and last a
--- number, a word, or an expression in parentheses. All but comparisons group to the left. An expression has at most so many
--- operators, one-sided ones and those in its parentheses included, so each part says how many may still come behind it.
-use Rattle.std.specs.Prelude.{ℕ, zero, suc, ◌-◌, ◌==◌, Bool, true, false, List, [], ◌∷◌, Option, Some, None}
+-- number, a word, or an expression in parentheses. All but comparisons group to the left. The operators of an expression are
+-- counted from left to right, one-sided ones and those in its parentheses too: each part is told how many stand in front of it,
+-- and says how many there are with its own.
+use Rattle.std.specs.Prelude.{ℕ, zero, suc, ◌-◌, ◌==◌, Bool, true, false, if◌then◌else◌, Option, Some, None}
 use Rattle.text_grammar.specs.declared.item.Item.{Item}
 use Rattle.text_grammar.specs.declared.item.Token.{Token}
 use Rattle.text_grammar.specs.declared.item.Token.TheVariants as token
 use Rattle.text_grammar.specs.declared.item.Symbol.{Symbol}
 use Rattle.text_grammar.specs.declared.item.Symbol.TheVariants as s
 use Rattle.text_grammar.specs.declared.fault.Kind.TheVariants.{TooDeep}
-use Rattle.text_grammar.specs.Part.{Part, first, second, one, both, after, either, pick, nothing, stop}
-use Rattle.text_grammar.specs.Terminals.{code, is_symbol, is_number, mark, name, number}
-use Rattle.tl_ast.specs.Limits.{grow_up_to}
+use Rattle.text_grammar.specs.Part.{Part, first, second, one, both, after, either, nothing, stop}
+use Rattle.text_grammar.specs.Terminals.{is_symbol, is_number, mark, name, number}
+use Rattle.tl_ast.specs.Limits.{grow, always, room}
 use Rattle.tl_ast.specs.declared.tree.TestExpr.{TestExpr}
 use Rattle.tl_ast.specs.declared.tree.TestExpr.TheVariants as e
 use Rattle.tl_ast.specs.declared.tree.TestOp.{TestOp}
 use Rattle.tl_ast.specs.declared.tree.TestOp.TheVariants as op
 
--- an expression, and how many operators may still come behind it
+pub record ExprLimits : Type 0 where
+  -- how many parentheses may be open at once
+  pub parens : ℕ
+  -- how many operators an expression may have, where that is limited
+  pub operators : Option ℕ
+
+-- the limits of test texts
+abbrev pub expr_limits : ExprLimits
+expr_limits = record { parens = 32; operators = Some 64 }
+
+-- an expression, and how many operators there are up to its end
 abbrev pub Counted : Type 0
 Counted = TestExpr × ℕ
 
 -- ---- operators
 
--- the operators of one tightness, with their symbols
-abbrev pub Tier : Type 0
-Tier = List (Symbol × TestOp)
+abbrev pub symbol_operator : Symbol → Option TestOp
+symbol_operator s.Plus = Some op.Add
+symbol_operator s.Minus = Some op.Sub
+symbol_operator s.Star = Some op.Mul
+symbol_operator s.And = Some op.And
+symbol_operator s.Or = Some op.Or
+symbol_operator s.Xor = Some op.Xor
+symbol_operator s.ShiftLeft = Some op.Shl
+symbol_operator s.ShiftRight = Some op.Shr
+symbol_operator s.EqualEqual = Some op.Eq
+symbol_operator s.NotEqual = Some op.Neq
+symbol_operator s.Less = Some op.Lt
+symbol_operator s.LessEqual = Some op.Leq
+symbol_operator s.Greater = Some op.Gt
+symbol_operator s.GreaterEqual = Some op.Geq
+symbol_operator _ = None
 
-abbrev pub comparisons : Tier
-comparisons = (s.EqualEqual, op.Eq) ∷ (s.NotEqual, op.Neq) ∷ (s.Less, op.Lt) ∷ (s.LessEqual, op.Leq) ∷ (s.Greater, op.Gt) ∷ (s.GreaterEqual, op.Geq) ∷ []
+-- how loosely an operator binds
+abbrev pub looseness : TestOp → ℕ
+looseness op.Mul = 0
+looseness op.Add = 1
+looseness op.Sub = 1
+looseness op.Shl = 2
+looseness op.Shr = 2
+looseness op.And = 3
+looseness op.Xor = 4
+looseness op.Or = 5
+looseness _ = 6
 
-abbrev pub ors : Tier
-ors = (s.Or, op.Or) ∷ []
+-- the looseness of comparisons: what is tighter groups to the left
+abbrev pub comparison : ℕ
+comparison = 6
 
-abbrev pub xors : Tier
-xors = (s.Xor, op.Xor) ∷ []
+-- the operator, if it binds so loosely
+abbrev pub if_loose : ℕ → Option TestOp → Option TestOp
+if_loose n None = None
+if_loose n (Some o) = if looseness o == n then Some o else None
 
-abbrev pub ands : Tier
-ands = (s.And, op.And) ∷ []
-
-abbrev pub shifts : Tier
-shifts = (s.ShiftLeft, op.Shl) ∷ (s.ShiftRight, op.Shr) ∷ []
-
-abbrev pub sums : Tier
-sums = (s.Plus, op.Add) ∷ (s.Minus, op.Sub) ∷ []
-
-abbrev pub products : Tier
-products = (s.Star, op.Mul) ∷ []
-
-abbrev pub symbol_operator : Tier → Symbol → Option TestOp
-symbol_operator [] symbol = None
-symbol_operator (row ∷ more) symbol = if_same (code row.0 == code symbol) row.1 (symbol_operator more symbol)
-  where
-    if_same : Bool → TestOp → Option TestOp → Option TestOp
-    if_same true found other = Some found
-    if_same false found other = other
-
-abbrev pub token_operator : Tier → Token → Option TestOp
-token_operator tier (token.Symbol symbol) = symbol_operator tier symbol
-token_operator tier _ = None
+abbrev pub token_operator : ℕ → Token → Option TestOp
+token_operator n (token.Symbol symbol) = if_loose n (symbol_operator symbol)
+token_operator n _ = None
 
 abbrev pub is_some : {A : Type 0} → Option A → Bool
 is_some (Some a) = true
 is_some None = false
 
-abbrev pub is_operator : Tier → Item → Bool
-is_operator tier x = is_some (token_operator tier x.token)
+-- an operator that binds so loosely
+abbrev pub is_operator : ℕ → Item → Bool
+is_operator n x = is_some (token_operator n x.token)
 
-unfoldable pub operator : Tier → Part TestOp
-operator tier = one (λ x. token_operator tier x.token)
+unfoldable pub operator : ℕ → Part TestOp
+operator n = one (λ x. token_operator n x.token)
 
 -- ---- operands
 
--- one operator of a tier and what stands behind it, where some may still come; past the limit it is faulty
-unfoldable pub one_more : Tier → (ℕ → Part Counted) → Counted → Part Counted
-one_more tier next v =
-    pick (v.1 == 0) (stop TooDeep)
-    (after (operator tier) (λ found. both (λ w (u : Unit {0}). (e.Two found v.0 w.0, w.1)) (next (v.1 - 1)) (nothing tt)))
-
--- any number of them behind a first operand, to the left
-unfoldable pub chain : Tier → (ℕ → Part Counted) → Counted → Part Counted
-chain tier next v = grow_up_to v.1 (is_operator tier) (one_more tier next) v
-
 abbrev pub counted : ℕ → TestExpr → Counted
-counted left x = (x, left)
+counted count x = (x, count)
 
--- a number, a word, or what `inside` has in parentheses
+-- a number
+unfoldable pub literal : ℕ → Part Counted
+literal count = both (λ n (u : Unit {0}). counted count (e.Num n)) number (nothing tt)
+
+unfoldable pub variable : ℕ → Part Counted
+variable count = both (λ w (u : Unit {0}). counted count (e.Var w)) name (nothing tt)
+
+-- what `inside` has in parentheses, or a variable
+unfoldable pub plain : (ℕ → Part Counted) → ℕ → Part Counted
+plain inside count = either (is_symbol s.OpenParen) (inside count) (variable count)
+
 unfoldable pub atom : (ℕ → Part Counted) → ℕ → Part Counted
-atom inside left =
-    either (is_symbol s.OpenParen) (inside left)
-    (either is_number (both (λ n (u : Unit {0}). counted left (e.Num n)) number (nothing tt)) (both (λ w (u : Unit {0}). counted left (e.Var w)) name (nothing tt)))
+atom inside count = either is_number (literal count) (plain inside count)
 
-abbrev pub negated : Counted → Counted
-negated v = (e.Neg v.0, v.1)
+-- a `-` before an operand is an operator; its value is the new count
+unfoldable pub minus : Option ℕ → ℕ → Part ℕ
+minus most count = both second (room most count) (both (λ (u : Unit {0}) (v : Unit {0}). suc count) (mark s.Minus) (nothing tt))
 
--- `-` before an operand is an operator too
-unfoldable pub operand : (ℕ → Part Counted) → ℕ → Part Counted
-operand inside zero = either (is_symbol s.Minus) (stop TooDeep) (atom inside 0)
-operand inside (suc left) = either (is_symbol s.Minus) (both (λ (u : Unit {0}) v. negated v) (mark s.Minus) (operand inside left)) (atom inside (suc left))
+unfoldable pub minuses : Option ℕ → ℕ → Part ℕ
+minuses most count = grow always (is_symbol s.Minus) (minus most) count
 
--- ---- expressions, where what `inside` has stands in parentheses; each behind its first operand, and from its first item on
+-- so often negated
+abbrev pub negated : ℕ → TestExpr → TestExpr
+negated zero x = x
+negated (suc n) x = e.Neg (negated n x)
 
-unfoldable pub product_from : (ℕ → Part Counted) → Counted → Part Counted
-product_from inside v = chain products (operand inside) v
+-- what stands behind signs, of which the last is the operator of this number
+unfoldable pub behind_signs : (ℕ → Part Counted) → ℕ → ℕ → Part Counted
+behind_signs inside count now = both (λ v (u : Unit {0}). (negated (now - count) v.0, v.1)) (atom inside now) (nothing tt)
 
-unfoldable pub product : (ℕ → Part Counted) → ℕ → Part Counted
-product inside left = after (operand inside left) (product_from inside)
+unfoldable pub signed : Option ℕ → (ℕ → Part Counted) → ℕ → Part Counted
+signed most inside count = after (after (minus most count) (minuses most)) (behind_signs inside count)
 
-unfoldable pub sum_from : (ℕ → Part Counted) → Counted → Part Counted
-sum_from inside v = after (product_from inside v) (chain sums (product inside))
+-- an operand that does not begin with a number
+unfoldable pub other_operand : Option ℕ → (ℕ → Part Counted) → ℕ → Part Counted
+other_operand most inside count = either (is_symbol s.Minus) (signed most inside count) (plain inside count)
 
-unfoldable pub sum : (ℕ → Part Counted) → ℕ → Part Counted
-sum inside left = after (operand inside left) (sum_from inside)
+unfoldable pub operand : Option ℕ → (ℕ → Part Counted) → ℕ → Part Counted
+operand most inside count = either is_number (literal count) (other_operand most inside count)
 
-unfoldable pub shift_from : (ℕ → Part Counted) → Counted → Part Counted
-shift_from inside v = after (sum_from inside v) (chain shifts (sum inside))
+-- ---- expressions, where what `inside` has stands in parentheses
 
-unfoldable pub shift : (ℕ → Part Counted) → ℕ → Part Counted
-shift inside left = after (operand inside left) (shift_from inside)
+-- one operator that binds so loosely, and what stands on its right
+unfoldable pub one_more : Option ℕ → ℕ → (ℕ → Part Counted) → Counted → Part Counted
+one_more most n right v = both second (room most v.1) (both (λ found w. (e.Two found v.0 w.0, w.1)) (operator n) (right (suc v.1)))
 
-unfoldable pub and_from : (ℕ → Part Counted) → Counted → Part Counted
-and_from inside v = after (shift_from inside v) (chain ands (shift inside))
+-- what follows a first operand, up to an operator that binds so loosely
+unfoldable pub behind : Option ℕ → (ℕ → Part Counted) → ℕ → Counted → Part Counted
+behind most inside zero v = nothing v
+behind most inside (suc n) v =
+    after (behind most inside n v) (grow always (is_operator n) (one_more most n (λ count. after (operand most inside count) (behind most inside n))))
 
-unfoldable pub and : (ℕ → Part Counted) → ℕ → Part Counted
-and inside left = after (operand inside left) (and_from inside)
-
-unfoldable pub xor_from : (ℕ → Part Counted) → Counted → Part Counted
-xor_from inside v = after (and_from inside v) (chain xors (and inside))
-
-unfoldable pub xor : (ℕ → Part Counted) → ℕ → Part Counted
-xor inside left = after (operand inside left) (xor_from inside)
-
-unfoldable pub or_from : (ℕ → Part Counted) → Counted → Part Counted
-or_from inside v = after (xor_from inside v) (chain ors (xor inside))
-
-unfoldable pub or : (ℕ → Part Counted) → ℕ → Part Counted
-or inside left = after (operand inside left) (or_from inside)
+-- operands of operators that bind tighter
+unfoldable pub level : Option ℕ → (ℕ → Part Counted) → ℕ → ℕ → Part Counted
+level most inside n count = after (operand most inside count) (behind most inside n)
 
 -- at most one comparison
-unfoldable pub compared : (ℕ → Part Counted) → Counted → Part Counted
-compared inside v = either (is_operator comparisons) (one_more comparisons (or inside) v) (nothing v)
+unfoldable pub compared : Option ℕ → (ℕ → Part Counted) → Counted → Part Counted
+compared most inside v = either (is_operator comparison) (one_more most comparison (level most inside comparison) v) (nothing v)
 
-unfoldable pub expr_from_in : (ℕ → Part Counted) → Counted → Part Counted
-expr_from_in inside v = after (or_from inside v) (compared inside)
+-- an expression behind its first operand, and a whole one
+unfoldable pub expr_behind : Option ℕ → (ℕ → Part Counted) → Counted → Part Counted
+expr_behind most inside v = after (behind most inside comparison v) (compared most inside)
 
-unfoldable pub expr_in : (ℕ → Part Counted) → ℕ → Part Counted
-expr_in inside left = after (operand inside left) (expr_from_in inside)
+unfoldable pub expr_in : Option ℕ → (ℕ → Part Counted) → ℕ → Part Counted
+expr_in most inside count = after (operand most inside count) (expr_behind most inside)
 
 -- `( E )`, where so many parentheses may still be opened, these included
-unfoldable pub parens : ℕ → ℕ → Part Counted
-parens zero left = stop TooDeep
-parens (suc depth) left = both second (mark s.OpenParen) (both first (expr_in (parens depth) left) (mark s.CloseParen))
+unfoldable pub parens : Option ℕ → ℕ → ℕ → Part Counted
+parens most zero count = stop TooDeep
+parens most (suc depth) count = both second (mark s.OpenParen) (both first (expr_in most (parens most depth) count) (mark s.CloseParen))
 
 -- ---- the parts that statements are made of
 
-pub record ExprLimits : Type 0 where
-  -- how many parentheses may be open at once
-  pub parens : ℕ
-  -- how many operators an expression may have
-  pub operators : ℕ
-
--- the limits of test texts
-abbrev pub expr_limits : ExprLimits
-expr_limits = record { parens = 32; operators = 64 }
-
-abbrev pub uncounted : Part Counted → Part TestExpr
+-- without the count
+unfoldable pub uncounted : Part Counted → Part TestExpr
 uncounted p = both (λ v (u : Unit {0}). v.0) p (nothing tt)
 
 unfoldable pub expr : ExprLimits → Part TestExpr
-expr l = uncounted (expr_in (parens l.parens) l.operators)
+expr l = uncounted (expr_in l.operators (parens l.operators l.parens) 0)
 
 -- an expression whose first operand is a number that was taken
-unfoldable pub expr_from_number : ExprLimits → ℕ → Part TestExpr
-expr_from_number l n = uncounted (expr_from_in (parens l.parens) (counted l.operators (e.Num n)))
+unfoldable pub expr_from_number : ExprLimits → ℕ → Part Counted
+expr_from_number l n = expr_behind l.operators (parens l.operators l.parens) (counted 0 (e.Num n))
+
+-- an expression that does not begin with a number
+unfoldable pub other_expr : ExprLimits → Part TestExpr
+other_expr l = uncounted (after (other_operand l.operators (parens l.operators l.parens) 0) (expr_behind l.operators (parens l.operators l.parens)))

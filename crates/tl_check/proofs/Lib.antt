@@ -1,0 +1,5 @@
+pub mod Unrolled
+pub mod Tables
+pub mod Loops
+pub mod Widths
+pub mod Walks

@@ -1,0 +1,10 @@
+pub mod Scopes
+pub mod Seen
+pub mod Values
+pub mod Rules
+pub mod Walk
+pub mod Following
+pub mod Faults
+pub mod Examples
+pub mod CoreTests
+pub mod Checked

@@ -1,0 +1,14 @@
+pub mod Growing
+pub mod Peeking
+pub mod Apart
+pub mod Fits
+pub mod ExprSteps
+pub mod ExprReads
+pub mod ExprFits
+pub mod TestSteps
+pub mod TestReads
+pub mod TestFits
+pub mod Faults
+pub mod Ordinary
+pub mod Texts
+pub mod Words
