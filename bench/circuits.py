@@ -1,10 +1,10 @@
 #!/usr/bin/env python3
-"""Processor time and peak memory of `fmt` and of the rules over circuits of four shapes and three sizes.
+"""Processor time and peak memory of `fmt` and of the rules over circuits of six shapes and three sizes.
 
     bench/circuits.py [PROGRAM]
 
-The shapes are many modules, one deep block, wide bundles and vectors, and long expressions; the sizes are 64 KiB,
-256 KiB and 1 MiB. `fmt` reads and prints a circuit; `run` reads it and judges its rules, and then refuses it, since none of
+The shapes are many modules, one deep block, wide bundles and vectors, long expressions, uses of the fields of one large
+bundle, and connects of one large bundle as a whole; the sizes are 64 KiB, 256 KiB and 1 MiB. `fmt` reads and prints a circuit; `run` reads it and judges its rules, and then refuses it, since none of
 these is in the first form. PROGRAM is the proved program, crates/threadbench/out/threadbench if not given. What a run
 of the smallest circuit costs is measured too and taken off. Growth is the ratio of what a byte of text costs, from one size to
 the next: it is linear where that is near 1.
@@ -73,7 +73,35 @@ def long_expressions(size):
     return filled('circuit E :\n  module E :\n    input a : UInt<8>\n', connect, '', size)
 
 
-SHAPES = (('many modules', many_modules), ('deep blocks', deep_block), ('wide types', wide_types), ('long expressions', long_expressions))
+def large_bundle(size):
+    """The text of a bundle of about this size, and the number of its fields."""
+    fields, length = [], 0
+    while length < size:
+        fields.append(f'f{len(fields)} : UInt<8>')
+        length += len(fields[-1]) + 2
+    return '{ ' + ', '.join(fields) + ' }', len(fields)
+
+
+BROKEN = '    connect a, a\n'
+
+
+def uses_of_fields(size):
+    """A bundle that takes half of the text, and connects of its fields. The last line breaks a rule, so `run` ends with the rules."""
+    bundle, count = large_bundle(size // 2)
+    head = f'circuit F :\n  module F :\n    input a : UInt<8>\n    wire w : {bundle}\n'
+    return filled(head, lambda k: f'    connect w.f{k * 7919 % count}, a\n', BROKEN, size)
+
+
+def whole_connects(size):
+    """Two wires of a bundle that take half of the text, a node of the bundle, and connects of these as a whole. The last line breaks a
+    rule, so `run` ends with the rules."""
+    bundle, _ = large_bundle(size // 4)
+    head = f'circuit C :\n  module C :\n    input a : UInt<8>\n    wire v : {bundle}\n    wire w : {bundle}\n    node n = v\n'
+    return filled(head, lambda k: f'    connect w, {"vn"[k % 2]}\n', BROKEN, size)
+
+
+SHAPES = (('many modules', many_modules), ('deep blocks', deep_block), ('wide types', wide_types), ('long expressions', long_expressions),
+          ('uses of fields', uses_of_fields), ('whole connects', whole_connects))
 
 
 def main():

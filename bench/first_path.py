@@ -59,11 +59,11 @@ def spawned(program, words, output):
                           file_actions=[(os.POSIX_SPAWN_DUP2, output, 1)])
 
 
-def processor_time(program, words):
+def processor_time(program, words, rounds=ROUNDS):
     """The least processor time of some runs in milliseconds, and the status of the last."""
     best, status = None, None
     with open(os.devnull, 'w') as sink:
-        for _ in range(ROUNDS):
+        for _ in range(rounds):
             child = spawned(program, words, sink.fileno())
             _, status, usage = os.wait4(child, 0)
             taken = (usage.ru_utime + usage.ru_stime) * 1000

@@ -1,4 +1,8 @@
 pub mod Checked
+pub mod Computed
+pub mod Devices
 pub mod Fitting
 pub mod Outcomes
 pub mod Running
+pub mod Small
+pub mod Taken

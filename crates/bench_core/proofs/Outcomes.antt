@@ -1,7 +1,7 @@
 -- How a run ends, and what it recorded.
 use Rattle.std.proofs.Common.{◌≡◌, ℕ, ◌+◌, ◌==◌, Bool, true, false, ◌||◌, if◌then◌else◌, List, [], ◌∷◌, ◌++◌, length, Some, None, is_some, refl, ap, sym, ◌∙◌, arith}
 use Rattle.net_core.specs.declared.ports.Signal.{Signal}
-use Rattle.sim_plain.specs.Settled.{NetValue, DesignValue, net_in}
+use Rattle.net_core.specs.declared.tree.Elab.{Elab}
 use Rattle.bench_core.specs.declared.act.Act.{Act}
 use Rattle.bench_core.specs.declared.act.Act.TheVariants.{Poke, Peek, Expect, Arrive}
 use Rattle.bench_core.specs.declared.run.Observation.{Observation}
@@ -27,18 +27,18 @@ push_failure (p ∷ os) o n e = ap (λ (b : Bool). is_some p.wanted || b) (push_
 Tells : World → Type 0
 Tells w = w.failed ≡ has_failure w.records
 
-after_expect : (net : NetValue) (w : World) (line n : ℕ) (port : Signal) (b : Bool) → Tells w
-    → Tells (if b then counted w else record (recorded (observation net w line port (Some n)) w) { failed = true })
+after_expect : (c : Elab) (w : World) (line n : ℕ) (port : Signal) (b : Bool) → Tells w
+    → Tells (if b then counted w else record (recorded (observation c w line port (Some n)) w) { failed = true })
 unfolding Tells
-after_expect net w line n port true e = e
-after_expect net w line n port false e = sym (push_failure w.records (observation net w line port (Some n)) n refl)
+after_expect c w line n port true e = e
+after_expect c w line n port false e = sym (push_failure w.records (observation c w line port (Some n)) n refl)
 
-after_act : (net : NetValue) (w : World) (act : Act) → is_over_at w act ≡ false → Tells w → Tells (acted net w act)
+after_act : (c : Elab) (w : World) (act : Act) → is_over_at w act ≡ false → Tells w → Tells (acted c w act)
 unfolding Tells
-after_act net w (Poke line port raw) goes e = e
-after_act net w (Peek line port) goes e = e ∙ sym (push_peek w.records (observation net w line port None) refl)
-after_act net w (Expect line port wanted) goes e = after_expect net w line wanted port (number_at net w port == wanted) e
-after_act net w (Arrive line) goes e = sym goes ∙ e
+after_act c w (Poke line port raw) goes e = e
+after_act c w (Peek line port) goes e = e ∙ sym (push_peek w.records (observation c w line port None) refl)
+after_act c w (Expect line port wanted) goes e = after_expect c w line wanted port (number_at c w port == wanted) e
+after_act c w (Arrive line) goes e = sym goes ∙ e
 
 outcome_is : (b : Bool) (t : ℕ) → is_failed (if b then Failed t else Finished t) ≡ b
 outcome_is true t = refl
@@ -56,15 +56,15 @@ told_either : (r s : Run) (over : Bool) → IsTold r → (over ≡ false → IsT
 told_either r s true h k = h
 told_either r s false h k = k refl
 
-told : (net : NetValue) (w : World) (acts : List Act) → Tells w → IsTold (run_from net w acts)
-told net w [] e = told_at_end w e
-told net w (act ∷ acts) e =
-    told_either (ended (counted w)) (run_from net (acted net w act) acts) (is_over_at w act) (told_at_end w e)
-    (λ goes. told net (acted net w act) acts (after_act net w act goes e))
+told : (c : Elab) (w : World) (acts : List Act) → Tells w → IsTold (run_from c w acts)
+told c w [] e = told_at_end w e
+told c w (act ∷ acts) e =
+    told_either (ended (counted w)) (run_from c (acted c w act) acts) (is_over_at w act) (told_at_end w e)
+    (λ goes. told c (acted c w act) acts (after_act c w act goes e))
 
-pub failures : (d : DesignValue) (acts : List Act) → is_failed (run_of d acts).outcome ≡ has_failure (run_of d acts).observations
+pub failures : (c : Elab) (acts : List Act) → is_failed (run_of c acts).outcome ≡ has_failure (run_of c acts).observations
 unfolding run_of Tells IsTold
-failures d acts = told (net_in d) (first_world d) acts refl
+failures c acts = told c (first_world c) acts refl
 
 over_failed : (w : World) (act : Act) → is_over_at w act ≡ true → w.failed ≡ true
 over_failed w (Poke line port raw) o = absurd (cc)
@@ -82,13 +82,13 @@ count_either w act r n true o h k =
     absurd (cc)
 count_either w act r n false o h k = k h
 
-count : (net : NetValue) (w : World) (acts : List Act) → is_failed (run_from net w acts).outcome ≡ false
-    → (run_from net w acts).actions ≡ w.actions + (length acts + 1)
-count net w [] h = refl
-count net w (act ∷ acts) h =
-    count_either w act (run_from net (acted net w act) acts) (w.actions + (length (act ∷ acts) + 1)) (is_over_at w act) refl h
-    (λ more. count net (acted net w act) acts more ∙ (ap (λ (k : ℕ). k + (length acts + 1)) (counted_once net w act) ∙ omega arith))
+count : (c : Elab) (w : World) (acts : List Act) → is_failed (run_from c w acts).outcome ≡ false
+    → (run_from c w acts).actions ≡ w.actions + (length acts + 1)
+count c w [] h = refl
+count c w (act ∷ acts) h =
+    count_either w act (run_from c (acted c w act) acts) (w.actions + (length (act ∷ acts) + 1)) (is_over_at w act) refl h
+    (λ more. count c (acted c w act) acts more ∙ (ap (λ (k : ℕ). k + (length acts + 1)) (counted_once c w act) ∙ omega arith))
 
-pub every_act : (d : DesignValue) (acts : List Act) → is_failed (run_of d acts).outcome ≡ false → (run_of d acts).actions ≡ length acts + 1
+pub every_act : (c : Elab) (acts : List Act) → is_failed (run_of c acts).outcome ≡ false → (run_of c acts).actions ≡ length acts + 1
 unfolding run_of
-every_act d acts h = count (net_in d) (first_world d) acts h ∙ omega arith
+every_act c acts h = count c (first_world c) acts h ∙ omega arith

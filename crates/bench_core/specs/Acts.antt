@@ -1,7 +1,9 @@
 -- What a test does, by the circuit's table of ports.
-use Rattle.std.specs.Prelude.{ℕ, ◌-◌, ◌^◌, Bool, ◌&&◌, nat_lt, if◌then◌else◌, List, [], ◌∷◌, Option, Some, None, option_map, option_and_then}
+use Rattle.std.specs.Prelude.{◌≡◌, ℕ, ◌-◌, ◌<◌, ◌^◌, Bool, true, ◌&&◌, nat_lt, if◌then◌else◌, List, [], ◌∷◌, length, Option, Some, None, option_map, option_and_then, ⊤}
 use Rattle.net_core.specs.declared.ports.PortInfo.{PortInfo}
+use Rattle.net_core.specs.declared.tree.Elab.{Elab}
 use Rattle.net_core.specs.Ports.{port_named}
+use Rattle.net_core.specs.Signals.{info, is_input}
 use Rattle.tl_read.specs.declared.tree.TestStmt.{TestStmt}
 use Rattle.tl_read.specs.declared.tree.TestStmt.TheVariants.{Poke as PokeStmt, Peek as PeekStmt, Expect as ExpectStmt, Step as StepStmt}
 use Rattle.bench_core.specs.declared.act.Act.{Act}
@@ -33,3 +35,10 @@ abbrev pub acts_of : List (List ℕ × PortInfo) → List TestStmt → Option (L
 acts_of ports [] = Some []
 acts_of ports (stmt ∷ rest) =
     option_and_then (λ act. option_map (λ acts. act ∷ acts) (acts_of ports rest)) (act_of ports stmt)
+
+-- the circuit can take the act: its port is a signal, and an input where it is poked
+abbrev pub Takes : Elab → Act → Type 0
+Takes e (Poke line port raw) = is_input (info e.signals port.0).role ≡ true
+Takes e (Peek line port) = port.0 < length e.signals
+Takes e (Expect line port wanted) = port.0 < length e.signals
+Takes e (Arrive line) = ⊤

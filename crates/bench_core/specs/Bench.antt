@@ -5,7 +5,8 @@ use Rattle.bench_core.specs.World.{World}
 -- the world of a bench
 abbrev pub world_of : Bench → World
 world_of b = record {
-  inputs = b.engine.inputs;
+  inputs = b.device.inputs;
+  registers = b.device.registers;
   time = b.time;
   records = b.records.items;
   failed = b.failed;

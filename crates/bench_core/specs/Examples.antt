@@ -1,9 +1,14 @@
--- Worked examples on a circuit that adds two numbers of eight bits.
-use Rattle.std.specs.Prelude.{ℕ, ◌≡◌, true, false, List, [], ◌∷◌, Option, Some, None, codes}
+-- Worked examples on a circuit that adds two numbers of eight bits, and on one that gives back its input a time step later.
+use Rattle.std.specs.Prelude.{ℕ, ◌≡◌, List, [], ◌∷◌, Option, Some, None, codes}
+use Rattle.tb_base.specs.declared.op.Op.TheVariants.{Add}
 use Rattle.tb_base.specs.declared.path.Region.TheVariants.{Main}
 use Rattle.net_core.specs.declared.ports.Signal.{Signal}
-use Rattle.sim_plain.specs.declared.equation.Equation.TheVariants.{Input, Add}
-use Rattle.sim_plain.specs.Settled.{DesignValue}
+use Rattle.net_core.specs.declared.tree.Elab.{Elab}
+use Rattle.net_core.specs.declared.tree.Ground.TheVariants.{Declare, Set}
+use Rattle.net_core.specs.declared.tree.GroundExpr.TheVariants.{Apply}
+use Rattle.net_core.specs.declared.tree.Role.TheVariants.{Input, Output, Reg}
+use Rattle.net_core.specs.Examples.{s, r, uint}
+use Rattle.net_design.specs.Designs.{ports_of}
 use Rattle.tl_read.specs.declared.tree.TestStmt.{TestStmt}
 use Rattle.tl_read.specs.declared.tree.TestStmt.TheVariants.{Poke as PokeStmt, Peek as PeekStmt, Expect as ExpectStmt, Step as StepStmt}
 use Rattle.bench_core.specs.declared.act.Act.{Act}
@@ -14,25 +19,21 @@ use Rattle.bench_core.specs.declared.run.Run.{Run}
 use Rattle.bench_core.specs.Acts.{acts_of}
 use Rattle.bench_core.specs.World.{run_of}
 
-abbrev a : Signal
-a = record { 0 = 0 }
-
-abbrev b : Signal
-b = record { 0 = 1 }
-
-abbrev out : Signal
-out = record { 0 = 2 }
-
--- the inputs a and b, and the output out, which is their sum
-abbrev pub adder : DesignValue
+-- inputs a and b, and an output, which is their sum
+abbrev pub adder : Elab
 adder = record {
   name = codes "Add";
-  ports =
-      (codes "a", record { signal = a; input = true; signed = false; width = 8 })
-      ∷ (codes "b", record { signal = b; input = true; signed = false; width = 8 })
-      ∷ (codes "out", record { signal = out; input = false; signed = false; width = 9 })
-      ∷ [];
-  equations = Input ∷ Input ∷ Add a b ∷ [];
+  signals = uint (codes "a") Input (Some 8) 3 ∷ uint (codes "b") Input (Some 8) 4 ∷ uint (codes "out") Output (Some 9) 5 ∷ [];
+  body = Declare (s 0) 3 None ∷ Declare (s 1) 4 None ∷ Declare (s 2) 5 None ∷ Set 6 (s 2) (Some (Apply Add (r 0 ∷ r 1 ∷ []) [])) ∷ [];
+}
+
+-- an input, an output, and a register that takes the input; the output is the register
+abbrev pub delay : Elab
+delay = record {
+  name = codes "Delay";
+  signals = uint (codes "a") Input (Some 8) 4 ∷ uint (codes "out") Output (Some 8) 5 ∷ uint (codes "r") Reg (Some 8) 6 ∷ [];
+  body = Declare (s 0) 4 None ∷ Declare (s 1) 5 None ∷ Declare (s 2) 6 None
+      ∷ Set 7 (s 2) (Some (r 0)) ∷ Set 8 (s 1) (Some (r 2)) ∷ [];
 }
 
 -- `poke a = 3; poke b = 4; peek out; expect out == 7; step 1; peek a;`, each on a line of its own
@@ -42,7 +43,7 @@ adder_test =
     ∷ StepStmt 5 ∷ PeekStmt 6 (codes "a") ∷ []
 
 abbrev pub adder_acts : List Act
-adder_acts = Poke 1 a 3 ∷ Poke 2 b 4 ∷ Peek 3 out ∷ Expect 4 out 7 ∷ Arrive 5 ∷ Peek 6 a ∷ []
+adder_acts = Poke 1 (s 0) 3 ∷ Poke 2 (s 1) 4 ∷ Peek 3 (s 2) ∷ Expect 4 (s 2) 7 ∷ Arrive 5 ∷ Peek 6 (s 0) ∷ []
 
 -- what the root thread sees
 abbrev seen : ℕ → ℕ → ℕ → Signal → ℕ → Option ℕ → Observation
@@ -59,38 +60,50 @@ seen time place line port value wanted = record {
 
 abbrev pub adder_run : Run
 adder_run = record {
-  observations = seen 0 2 3 out 7 None ∷ seen 1 5 6 a 3 None ∷ [];
+  observations = seen 0 2 3 (s 2) 7 None ∷ seen 1 5 6 (s 0) 3 None ∷ [];
   actions = 7;
   outcome = Finished 1;
 }
 
+-- `poke a = 9; peek out; step 1; peek out;` on one line
+abbrev pub delay_acts : List Act
+delay_acts = Poke 1 (s 0) 9 ∷ Peek 1 (s 1) ∷ Arrive 1 ∷ Peek 1 (s 1) ∷ []
+
 pub record ActExamples : Type 0 where
-  pub of_the_adder : acts_of adder.ports adder_test ≡ Some adder_acts
+  pub of_the_adder : acts_of (ports_of adder) adder_test ≡ Some adder_acts
   -- an unknown port, an output that is poked, a number of nine bits for a port of eight
-  pub unknown : acts_of adder.ports (PeekStmt 1 (codes "c") ∷ []) ≡ None
-  pub poked_output : acts_of adder.ports (PokeStmt 1 (codes "out") 1 ∷ []) ≡ None
-  pub too_wide : acts_of adder.ports (StepStmt 1 ∷ ExpectStmt 2 (codes "a") 256 ∷ []) ≡ None
-  pub just_fits : acts_of adder.ports (ExpectStmt 2 (codes "a") 255 ∷ []) ≡ Some (Expect 2 a 255 ∷ [])
+  pub unknown : acts_of (ports_of adder) (PeekStmt 1 (codes "c") ∷ []) ≡ None
+  pub poked_output : acts_of (ports_of adder) (PokeStmt 1 (codes "out") 1 ∷ []) ≡ None
+  pub too_wide : acts_of (ports_of adder) (StepStmt 1 ∷ ExpectStmt 2 (codes "a") 256 ∷ []) ≡ None
+  pub just_fits : acts_of (ports_of adder) (ExpectStmt 2 (codes "a") 255 ∷ []) ≡ Some (Expect 2 (s 0) 255 ∷ [])
+  -- a register is no port
+  pub register : acts_of (ports_of delay) (PeekStmt 1 (codes "r") ∷ []) ≡ None
 
 pub record RunExamples : Type 0 where
   pub of_the_adder : run_of adder adder_acts ≡ adder_run
   -- no acts but the end
   pub of_nothing : run_of adder [] ≡ record { observations = []; actions = 1; outcome = Finished 0 }
   -- a poke counts for what is read after it, and for nothing before
-  pub of_two_peeks : run_of adder (Peek 1 out ∷ Poke 2 a 255 ∷ Peek 3 out ∷ []) ≡ record {
-    observations = seen 0 0 1 out 0 None ∷ seen 0 2 3 out 255 None ∷ [];
+  pub of_two_peeks : run_of adder (Peek 1 (s 2) ∷ Poke 2 (s 0) 255 ∷ Peek 3 (s 2) ∷ []) ≡ record {
+    observations = seen 0 0 1 (s 2) 0 None ∷ seen 0 2 3 (s 2) 255 None ∷ [];
     actions = 4;
     outcome = Finished 0;
   }
   -- an expect that fails doesn't end the run
-  pub goes_on : run_of adder (Expect 1 out 1 ∷ Peek 2 out ∷ []) ≡ record {
-    observations = seen 0 0 1 out 0 (Some 1) ∷ seen 0 1 2 out 0 None ∷ [];
+  pub goes_on : run_of adder (Expect 1 (s 2) 1 ∷ Peek 2 (s 2) ∷ []) ≡ record {
+    observations = seen 0 0 1 (s 2) 0 (Some 1) ∷ seen 0 1 2 (s 2) 0 None ∷ [];
     actions = 3;
     outcome = Failed 0;
   }
   -- the end of its time step does
-  pub ends_at_step : run_of adder (Arrive 1 ∷ Expect 2 out 1 ∷ Arrive 3 ∷ Peek 4 out ∷ []) ≡ record {
-    observations = seen 1 1 2 out 0 (Some 1) ∷ [];
+  pub ends_at_step : run_of adder (Arrive 1 ∷ Expect 2 (s 2) 1 ∷ Arrive 3 ∷ Peek 4 (s 2) ∷ []) ≡ record {
+    observations = seen 1 1 2 (s 2) 0 (Some 1) ∷ [];
     actions = 3;
     outcome = Failed 1;
+  }
+  -- a register takes its input at the edge, and no earlier
+  pub of_the_delay : run_of delay delay_acts ≡ record {
+    observations = seen 0 1 1 (s 1) 0 None ∷ seen 1 3 1 (s 1) 9 None ∷ [];
+    actions = 5;
+    outcome = Finished 1;
   }

@@ -1,7 +1,7 @@
 -- What holds of each run, whatever the circuit and the test.
 use Rattle.std.specs.Prelude.{◌≡◌, ◌+◌, Bool, true, false, List, length, is_some}
 use Rattle.std.specs.List.{list_any}
-use Rattle.sim_plain.specs.Settled.{DesignValue}
+use Rattle.net_core.specs.declared.tree.Elab.{Elab}
 use Rattle.bench_core.specs.declared.act.Act.{Act}
 use Rattle.bench_core.specs.declared.run.Observation.{Observation}
 use Rattle.bench_core.specs.declared.run.Outcome.{Outcome}
@@ -19,6 +19,6 @@ has_failure records = list_any (λ (o : Observation). is_some o.wanted) records
 
 pub record RunLaws : Type 0 where
   -- a run has failed exactly where one of its records is a failure
-  pub failures : (d : DesignValue) (acts : List Act) → is_failed (run_of d acts).outcome ≡ has_failure (run_of d acts).observations
+  pub failures : (e : Elab) (acts : List Act) → is_failed (run_of e acts).outcome ≡ has_failure (run_of e acts).observations
   -- a run that hasn't failed took every act, and the end
-  pub every_act : (d : DesignValue) (acts : List Act) → is_failed (run_of d acts).outcome ≡ false → (run_of d acts).actions ≡ length acts + 1
+  pub every_act : (e : Elab) (acts : List Act) → is_failed (run_of e acts).outcome ≡ false → (run_of e acts).actions ≡ length acts + 1

@@ -1,46 +1,53 @@
 -- A run of a test with one thread, as a world that goes through the test's acts.
-use Rattle.std.specs.Prelude.{ℕ, ◌+◌, ◌%◌, ◌^◌, Bool, true, false, ◌==◌, if◌then◌else◌, List, [], ◌∷◌, ◌++◌, length, replicate, slice_set, slice_index, Option, Some, None}
-use Rattle.tb_base.specs.Word.{low_bits, value_of}
+use Rattle.std.specs.Prelude.{ℕ, ◌+◌, ◌%◌, ◌^◌, Bool, true, false, ◌==◌, if◌then◌else◌, List, [], ◌∷◌, ◌++◌, length, replicate, slice_set, Option, Some, None}
 use Rattle.tb_base.specs.declared.path.Region.TheVariants.{Main}
 use Rattle.net_core.specs.declared.ports.Signal.{Signal}
-use Rattle.sim_plain.specs.Settled.{NetValue, DesignValue, net_in, settled_in}
+use Rattle.net_core.specs.declared.tree.Elab.{Elab}
+use Rattle.net_core.specs.Signals.{info, given_width}
+use Rattle.net_design.specs.Settling as settling
+use Rattle.net_design.specs.Settling.{registers_after}
 use Rattle.bench_core.specs.declared.act.Act.{Act}
 use Rattle.bench_core.specs.declared.act.Act.TheVariants.{Poke, Peek, Expect, Arrive}
 use Rattle.bench_core.specs.declared.run.Observation.{Observation}
 use Rattle.bench_core.specs.declared.run.Outcome.TheVariants.{Failed, Finished}
 use Rattle.bench_core.specs.declared.run.Run.{Run}
 
--- a run that goes on: the number of each input, the number of the time step, the records so far,
--- whether this time step has a failure, and how many actions there were
+-- a run that goes on: the bits of each input and of each register, both at the places of their signals, the number of the
+-- time step, the records so far, whether this time step has a failure, and how many actions there were
 pub record World : Type 0 where
   pub inputs : List ℕ
+  pub registers : List ℕ
   pub time : ℕ
   pub records : List Observation
   pub failed : Bool
   pub actions : ℕ
 
--- at the start all inputs are 0 and nothing has happened
-abbrev pub first_world : DesignValue → World
-first_world d = record { inputs = replicate (length d.ports) 0; time = 0; records = []; failed = false; actions = 0 }
+-- a place for each signal of the circuit, with 0
+abbrev pub zeros : Elab → List ℕ
+zeros e = replicate (length e.signals) 0
+
+-- at the start all inputs and registers are 0 and nothing has happened
+abbrev pub first_world : Elab → World
+first_world e = record { inputs = zeros e; registers = zeros e; time = 0; records = []; failed = false; actions = 0 }
 
 -- the number of a port: its settled value, extended to 128 bits
-abbrev pub number_at : NetValue → World → Signal → ℕ
-number_at net w port = low_bits 128 (value_of (settled_in net w.inputs port.0))
+abbrev pub number_at : Elab → World → Signal → ℕ
+number_at e w port = settling.number_at e w.inputs w.registers port.0
 
 -- the inputs after a poke: the port has the low bits of the number, as many as its width
-abbrev pub poked : NetValue → List ℕ → Signal → ℕ → List ℕ
-poked net inputs port raw = slice_set inputs port.0 (raw % 2 ^ slice_index net.widths port.0)
+abbrev pub poked : Elab → List ℕ → Signal → ℕ → List ℕ
+poked e inputs port raw = slice_set inputs port.0 (raw % 2 ^ given_width (info e.signals port.0))
 
 -- what is recorded of a port. The one thread is the root; its place is the number of its actions before
-abbrev pub observation : NetValue → World → ℕ → Signal → Option ℕ → Observation
-observation net w line port wanted = record {
+abbrev pub observation : Elab → World → ℕ → Signal → Option ℕ → Observation
+observation e w line port wanted = record {
   time = w.time;
   region = Main;
   path = [];
   place = w.actions;
   line = line;
   port = port;
-  value = number_at net w port;
+  value = number_at e w port;
   wanted = wanted;
 }
 
@@ -52,19 +59,19 @@ counted w = record w { actions = w.actions + 1 }
 abbrev pub recorded : Observation → World → World
 recorded o w = record (counted w) { records = w.records ++ o ∷ [] }
 
--- the next time step, which has no failure yet. The clock's edge changes no register, as there are none
-abbrev pub stepped : World → World
-stepped w = record w { time = w.time + 1; failed = false }
+-- the next time step, which has no failure yet: the clock's edge has changed the registers
+abbrev pub stepped : Elab → World → World
+stepped e w = record w { registers = registers_after e w.inputs w.registers; time = w.time + 1; failed = false }
 
 -- the world after an act: a poke sets its input; a peek records the port's number; an expect
 -- records it where it isn't the wanted one, which is a failure; an arrival ends the time step
-abbrev pub acted : NetValue → World → Act → World
-acted net w (Poke line port raw) = record (counted w) { inputs = poked net w.inputs port raw }
-acted net w (Peek line port) = recorded (observation net w line port None) w
-acted net w (Expect line port wanted) =
-    if number_at net w port == wanted then counted w
-    else record (recorded (observation net w line port (Some wanted)) w) { failed = true }
-acted net w (Arrive line) = stepped (counted w)
+abbrev pub acted : Elab → World → Act → World
+acted e w (Poke line port raw) = record (counted w) { inputs = poked e w.inputs port raw }
+acted e w (Peek line port) = recorded (observation e w line port None) w
+acted e w (Expect line port wanted) =
+    if number_at e w port == wanted then counted w
+    else record (recorded (observation e w line port (Some wanted)) w) { failed = true }
+acted e w (Arrive line) = stepped e (counted w)
 
 -- whether the run is over with this act: it is an arrival, and its time step has a failure
 abbrev pub is_over_at : World → Act → Bool
@@ -81,11 +88,11 @@ ended w = record {
 
 -- the rest of a run: the acts in order, up to the one with which it is over, and behind the last
 -- act the end, which is an action too
-abbrev pub run_from : NetValue → World → List Act → Run
-run_from net w [] = ended (counted w)
-run_from net w (act ∷ acts) =
-    if is_over_at w act then ended (counted w) else run_from net (acted net w act) acts
+abbrev pub run_from : Elab → World → List Act → Run
+run_from e w [] = ended (counted w)
+run_from e w (act ∷ acts) =
+    if is_over_at w act then ended (counted w) else run_from e (acted e w act) acts
 
 -- the run of a test's acts on a circuit
-unfoldable pub run_of : DesignValue → List Act → Run
-run_of d acts = run_from (net_in d) (first_world d) acts
+unfoldable pub run_of : Elab → List Act → Run
+run_of e acts = run_from e (first_world e) acts

@@ -1,6 +1,9 @@
 //! Acts, and the check that turns the statements of a test into acts.
 ghost use Rattle.std.specs.Prelude.{◌≡◌, ◌^◌, nat_lt, length, None, Some, IfOk, IsErrOf};
-ghost use Rattle.bench_core.specs.Acts.{holds, poke_of, expect_of, act_of, acts_of};
+ghost use Rattle.std.specs.List.{All};
+ghost use Rattle.net_core.specs.declared.tree.Elab.{Elab};
+ghost use Rattle.net_design.specs.Designs.{ports_of};
+ghost use Rattle.bench_core.specs.Acts.{holds, poke_of, expect_of, act_of, acts_of, Takes};
 ghost use Rattle.bench_core.specs.declared.act.TestFault.{TestFault};
 
 use net_core::{PortInfo, PortTable, Signal};
@@ -124,11 +127,13 @@ fn act_of(ports: &PortTable, stmt: &TestStmt) -> Option<Act>
 ///
 /// It is `NotInForm` exactly where some statement has no act: its port isn't in the table, it
 /// pokes a port that is no input, or the port's type doesn't hold its number. The other refusal
-/// is want of memory. Each statement costs one look-up of its port's name.
+/// is want of memory. A circuit whose ports these are can take the acts. Each statement costs one
+/// look-up of its port's name.
 pub fn check_test(alloc: Global, test: &TestText, ports: &PortTable) -> Result<Seq<Act>, TestFault>
     ensures ok { IfOk result (λ acts. acts_of ports.now test.now.body ≡ Some acts) }
     ensures refused { IsErrOf result TestFault.NotInForm → acts_of ports.now test.now.body ≡ None }
     ensures count { IfOk result (λ acts. length acts ≡ length test.now.body) }
+    ensures taken { (e : Elab) → ports.now ≡ ports_of e → IfOk result (λ acts. All (Takes e) acts) }
 {
     let mut acts = Vec::new(alloc);
     for stmt in test.body.items() {

@@ -3,10 +3,12 @@
 //! [`check_test`] turns the statements of a test into acts, which name ports by their numbers.
 //! [`run_first`] takes the acts one after another on a plain engine and gives the run: what was
 //! observed, how many actions there were, and how it ended. What a run is, is said without an
-//! engine, as a world that goes through the acts (`specs/World.antt`).
+//! engine, as a world that goes through the acts (`specs/World.antt`): its values are the settled
+//! ones of the circuit under its inputs and registers.
 #![tactic(auto)]
 
 mod act;
+mod device;
 mod examples;
 mod laws;
 mod run;

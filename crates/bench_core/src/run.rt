@@ -1,17 +1,19 @@
 //! The run of a test with one thread.
 //!
-//! A bench keeps one engine and what has happened so far. Contracts see it as a world: the
-//! engine's inputs, the time step, the records, whether this time step has a failure, and the
-//! number of actions. Each step of the run is one step of that world.
+//! A bench keeps a circuit under test and what has happened so far. Contracts see it as a world: the
+//! circuit's inputs and registers, the time step, the records, whether this time step has a failure,
+//! and the number of actions. Each step of the run is one step of that world.
 ghost use Rattle.std.specs.Prelude.{◌≡◌, ◌-◌, ◌^◌, ◌<◌, length, IfOk, OnOk, Some, None};
-ghost use Rattle.sim_plain.specs.Settled.{net_in};
+ghost use Rattle.std.specs.List.{All};
+ghost use Rattle.bench_core.specs.Acts.{Takes};
 ghost use Rattle.bench_core.specs.World.{first_world, number_at, observation, recorded, counted, acted, stepped, is_over_at, ended, run_of};
 ghost use Rattle.bench_core.specs.Bench.{world_of};
 ghost use Rattle.bench_core.specs.declared.act.Act.{Act};
 
 use crate::act::Act;
+use crate::device::Device;
 use net_core::Signal;
-use sim_plain::{Design, PlainEngine};
+use net_design::Design;
 use std::alloc::Global;
 use tb_base::{Memory, Path, Region, Seq};
 
@@ -54,34 +56,27 @@ pub struct Run {
 
 /// A run that goes on.
 #[derive(Drop)]
-pub(crate) struct Bench {
-    engine: PlainEngine,
+pub(crate) struct Bench<'a> {
+    device: Device<'a>,
     time: u32,
     records: Vec<Observation>,
     failed: bool,
     actions: u32,
 }
 
-impl Bench {
+impl<'a> Bench<'a> {
     /// The bench of a circuit before the first action.
-    fn new(alloc: Global, design: &Design) -> Result<Bench, Memory>
-        ensures net { IfOk result (λ b. b.engine.net ≡ net_in design.now) }
-        ensures world { IfOk result (λ b. world_of b ≡ first_world design.now) }
+    fn new(alloc: Global, design: &'a Design) -> Result<Bench<'a>, Memory>
+        ensures elab { IfOk result (λ b. b.device.elab ≡ design.now.elab) }
+        ensures world { IfOk result (λ b. world_of b ≡ first_world design.now.elab) }
     {
         Ok(Bench {
-            engine: PlainEngine::new(alloc, design)?,
+            device: Device::new(alloc, design)?,
             time: 0,
             records: Vec::new(alloc),
             failed: false,
             actions: 0,
         })
-    }
-
-    /// The port's number.
-    fn number(&self, port: Signal) -> u128
-        ensures { result ≡ number_at self.now.engine.net (world_of self.now) port }
-    {
-        self.engine.value(port).word()
     }
 
     /// Counts an action that saw this number at a port, and records it.
@@ -94,10 +89,10 @@ impl Bench {
         wanted: Option<u128>,
     ) -> Result<(), Memory>
         requires room { self.old.actions < 2 ^ 32 - 1 }
-        requires value { value ≡ number_at self.old.engine.net (world_of self.old) port }
-        ensures net { OnOk result (self.new.engine.net ≡ self.old.engine.net) }
+        requires value { value ≡ number_at self.old.device.elab (world_of self.old) port }
+        ensures elab { OnOk result (self.new.device.elab ≡ self.old.device.elab) }
         ensures world { OnOk result (world_of self.new
-            ≡ recorded (observation self.old.engine.net (world_of self.old) line port wanted) (world_of self.old)) }
+            ≡ recorded (observation self.old.device.elab (world_of self.old) line port wanted) (world_of self.old)) }
     {
         let seen = Observation {
             time: self.time,
@@ -114,14 +109,28 @@ impl Bench {
         Ok(())
     }
 
+    /// Takes the action of a peek.
+    fn peek(&mut self, alloc: Global, line: u32, port: Signal) -> Result<(), Memory>
+        requires room { self.old.actions < 2 ^ 32 - 1 }
+        requires taken { Takes self.old.device.elab (Act.Peek line port) }
+        ensures elab { OnOk result (self.new.device.elab ≡ self.old.device.elab) }
+        ensures world { OnOk result (world_of self.new
+            ≡ acted self.old.device.elab (world_of self.old) (Act.Peek line port)) }
+    {
+        let value = self.device.number(port);
+        self.record(alloc, line, port, value, None)?;
+        Ok(())
+    }
+
     /// Takes the action of an expect.
     fn expect(&mut self, alloc: Global, line: u32, port: Signal, wanted: u128) -> Result<(), Memory>
-        requires { self.old.actions < 2 ^ 32 - 1 }
-        ensures net { OnOk result (self.new.engine.net ≡ self.old.engine.net) }
+        requires room { self.old.actions < 2 ^ 32 - 1 }
+        requires taken { Takes self.old.device.elab (Act.Expect line port wanted) }
+        ensures elab { OnOk result (self.new.device.elab ≡ self.old.device.elab) }
         ensures world { OnOk result (world_of self.new
-            ≡ acted self.old.engine.net (world_of self.old) (Act.Expect line port wanted)) }
+            ≡ acted self.old.device.elab (world_of self.old) (Act.Expect line port wanted)) }
     {
-        let value = self.number(port);
+        let value = self.device.number(port);
         if value == wanted {
             self.actions += 1;
             return Ok(());
@@ -134,10 +143,10 @@ impl Bench {
     /// Ends the time step: the clock has its edge.
     fn step(&mut self)
         requires { self.old.time < 2 ^ 32 - 1 }
-        ensures net { self.new.engine.net ≡ self.old.engine.net }
-        ensures world { world_of self.new ≡ stepped (world_of self.old) }
+        ensures elab { self.new.device.elab ≡ self.old.device.elab }
+        ensures world { world_of self.new ≡ stepped self.old.device.elab (world_of self.old) }
     {
-        self.engine.edge();
+        self.device.edge();
         self.time += 1;
         self.failed = false;
     }
@@ -146,18 +155,18 @@ impl Bench {
     fn act(&mut self, alloc: Global, act: Act) -> Result<(), Memory>
         requires actions { self.old.actions < 2 ^ 32 - 1 }
         requires time { self.old.time < 2 ^ 32 - 1 }
-        ensures net { OnOk result (self.new.engine.net ≡ self.old.engine.net) }
-        ensures world { OnOk result (world_of self.new ≡ acted self.old.engine.net (world_of self.old) act) }
+        requires taken { Takes self.old.device.elab act }
+        ensures elab { OnOk result (self.new.device.elab ≡ self.old.device.elab) }
+        ensures world { OnOk result (world_of self.new ≡ acted self.old.device.elab (world_of self.old) act) }
     {
         match act {
             Act::Poke { port, raw, .. } => {
-                self.engine.poke(port, raw);
+                self.device.poke(port, raw);
                 self.actions += 1;
                 Ok(())
             }
             Act::Peek { line, port } => {
-                let value = self.number(port);
-                self.record(alloc, line, port, value, None)?;
+                self.peek(alloc, line, port)?;
                 Ok(())
             }
             Act::Expect { line, port, wanted } => {
@@ -185,7 +194,7 @@ impl Bench {
     /// The run that is over with one more action.
     fn end(self) -> Run
         requires { self.actions < 2 ^ 32 - 1 }
-        ensures { result ≡ ended (counted (world_of self)) }
+        ensures { result ≡ ended (counted (world_of self.entry)) }
     {
         let Bench {
             time,
@@ -206,15 +215,17 @@ impl Bench {
     }
 }
 
-/// The run of a test's acts on a circuit whose inputs are all 0 at the start.
+/// The run of a test's acts on a circuit whose inputs and registers are all 0 at the start.
 ///
 /// Each act is an action, and so is the end of the test. A value that is read is the one after all
-/// earlier pokes. An expect that fails makes a record, and the test goes on; the run has failed
-/// when the time step with the failure ends. The one refusal is want of memory. The cost is linear
-/// in the number of acts.
+/// earlier pokes and edges. An expect that fails makes a record, and the test goes on; the run has
+/// failed when the time step with the failure ends. The one refusal is want of memory. An act costs
+/// a constant number of steps, but for an edge and the first value that is read after a poke or an
+/// edge: these take time linear in the size of the circuit's net.
 pub fn run_first(alloc: Global, design: &Design, acts: &[Act]) -> Result<Run, Memory>
-    requires { length acts.now < 2 ^ 32 - 1 }
-    ensures { IfOk result (λ r. r ≡ run_of design.now acts.now) }
+    requires few { length acts.now < 2 ^ 32 - 1 }
+    requires taken { All (Takes design.now.elab) acts.now }
+    ensures { IfOk result (λ r. r ≡ run_of design.now.elab acts.now) }
 {
     let mut bench = Bench::new(alloc, design)?;
     for act in acts {

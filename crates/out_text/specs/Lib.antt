@@ -1,2 +1,4 @@
 pub mod Examples
 pub mod Report
+pub mod Steps
+pub mod Summary

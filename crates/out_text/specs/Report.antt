@@ -1,19 +1,18 @@
 -- The report of a run, line by line. Each line ends with a line feed.
-use Rattle.std.specs.Prelude.{ℕ, List, [], ◌++◌, length, codes, flat_map, slice_get, Option, Some, None}
-use Rattle.std.specs.Option.{option_map_or}
+use Rattle.std.specs.Prelude.{ℕ, ◌-◌, ◌^◌, Bool, ◌&&◌, nat_le, if◌then◌else◌, List, [], ◌++◌, length, codes, flat_map, Option, Some, None}
 use Rattle.std.specs.Fmt.{decimal}
 use Rattle.tb_base.specs.Paths.{path_text}
-use Rattle.net_core.specs.declared.ports.PortInfo.{PortInfo}
-use Rattle.net_core.specs.declared.ports.Signal.{Signal}
-use Rattle.sim_plain.specs.Settled.{DesignValue}
+use Rattle.net_core.specs.declared.tree.Elab.{Elab}
+use Rattle.net_core.specs.declared.tree.SignalInfo.{SignalInfo}
+use Rattle.net_core.specs.Signals.{info}
 use Rattle.bench_core.specs.declared.run.Observation.{Observation}
 use Rattle.bench_core.specs.declared.run.Outcome.{Outcome}
 use Rattle.bench_core.specs.declared.run.Outcome.TheVariants.{Failed, Finished}
 use Rattle.bench_core.specs.declared.run.Run.{Run}
 
--- the name of a port, by its place in the table. Past the last port there is none
-abbrev pub port_name : List (List ℕ × PortInfo) → Signal → List ℕ
-port_name ports port = option_map_or (λ (p : List ℕ × PortInfo). p.0) (slice_get ports port.0) []
+-- a number of 128 bits in decimal digits. That of a signed port counts its first bit as -2 ^ 127: 2 ^ 128 - 8 is -8
+abbrev pub number_text : Bool → ℕ → List ℕ
+number_text signed n = if signed && nat_le (2 ^ 127) n then codes "-" ++ decimal (2 ^ 128 - n) else decimal n
 
 -- a number was wanted by an expect, and by no peek
 abbrev pub verb : Option ℕ → List ℕ
@@ -21,22 +20,22 @@ verb None = codes "peek"
 verb (Some number) = codes "expect"
 
 -- the number that was wanted, if one was
-abbrev pub wanted_text : Option ℕ → List ℕ
-wanted_text None = []
-wanted_text (Some number) = codes " wanted " ++ decimal number
+abbrev pub wanted_text : Bool → Option ℕ → List ℕ
+wanted_text signed None = []
+wanted_text signed (Some number) = codes " wanted " ++ number_text signed number
 
 -- where a record was made: the time step, the thread, the line, as `0 / 3`
 abbrev pub where_text : Observation → List ℕ
 where_text o = decimal o.time ++ (codes " " ++ (path_text o.path ++ (codes " " ++ decimal o.line)))
 
--- what was seen: `peek out = 7`, or `expect out = 0 wanted 1`
-abbrev pub seen_text : List (List ℕ × PortInfo) → Observation → List ℕ
-seen_text ports o =
-    verb o.wanted ++ (codes " " ++ (port_name ports o.port ++ (codes " = " ++ (decimal o.value ++ wanted_text o.wanted))))
+-- what was seen at a port: `peek out = 7`, or `expect out = 0 wanted 1`
+abbrev pub seen_text : SignalInfo → Observation → List ℕ
+seen_text port o =
+    verb o.wanted ++ (codes " " ++ (port.name ++ (codes " = " ++ (number_text port.signed o.value ++ wanted_text port.signed o.wanted))))
 
 -- the line of a record
-abbrev pub record_text : List (List ℕ × PortInfo) → Observation → List ℕ
-record_text ports o = where_text o ++ (codes " " ++ (seen_text ports o ++ codes "\n"))
+abbrev pub record_text : List SignalInfo → Observation → List ℕ
+record_text signals o = where_text o ++ (codes " " ++ (seen_text (info signals o.port.0) o ++ codes "\n"))
 
 -- the word for how a run ended
 abbrev pub ending : Outcome → List ℕ
@@ -59,7 +58,7 @@ outcome_text run =
     ++ (codes " actions, " ++ (decimal (length run.observations) ++ codes " records\n"))))
 
 -- the whole report: the circuit's name, the records in order, the outcome
-unfoldable pub report_text : DesignValue → Run → List ℕ
-report_text d run =
-    codes "circuit " ++ (d.name ++ (codes "\n"
-    ++ (flat_map (record_text d.ports) run.observations ++ outcome_text run)))
+unfoldable pub report_text : Elab → Run → List ℕ
+report_text e run =
+    codes "circuit " ++ (e.name ++ (codes "\n"
+    ++ (flat_map (record_text e.signals) run.observations ++ outcome_text run)))

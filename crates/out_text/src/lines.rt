@@ -3,22 +3,26 @@
 //! A report is a list of lines: the circuit's name, each record in order, and the outcome. Each
 //! printer here puts one definition of `specs/Report.antt` behind the text so far.
 ghost use Rattle.std.specs.Prelude.{◌≡◌, ◌++◌, OnOk, IfOk, flat_map};
-ghost use Rattle.out_text.specs.Report.{port_name, verb, wanted_text, where_text, seen_text, record_text, ending, end_time, ending_text, outcome_text, report_text};
+ghost use Rattle.net_core.specs.Signals.{info};
+ghost use Rattle.out_text.specs.Report.{number_text, verb, wanted_text, where_text, seen_text, record_text, ending, end_time, ending_text, outcome_text, report_text};
 
 use bench_core::{Observation, Outcome, Run};
-use net_core::{PortTable, Signal};
-use sim_plain::Design;
+use net_core::SignalInfo;
+use net_design::Design;
 use std::alloc::Global;
 use tb_base::{Memory, put, put_decimal, put_path};
 
-/// The name of a port. It is empty past the last port.
-fn port_name(ports: &PortTable, port: Signal) -> &[u8]
-    ensures { result.now ≡ port_name ports.now port }
+/// Puts a number, which is that of a signed port or not.
+fn put_number(alloc: Global, out: &mut Vec<u8>, signed: bool, number: u128) -> Result<(), Memory>
+    ensures { OnOk result (out.new.items ≡ out.old.items ++ number_text signed number) }
 {
-    match ports.at(port.0 as usize) {
-        Some((name, _)) => name,
-        None => b"",
+    if signed && number >= 1 << 127 {
+        put(out, b"-")?;
+        put_decimal(alloc, out, u128::MAX - number + 1)?;
+        return Ok(());
     }
+    put_decimal(alloc, out, number)?;
+    Ok(())
 }
 
 /// The word for what made a record: a peek, or an expect where a number was wanted.
@@ -32,14 +36,19 @@ fn verb(wanted: Option<u128>) -> &'static [u8]
 }
 
 /// Puts the number that was wanted, if one was.
-fn put_wanted(alloc: Global, out: &mut Vec<u8>, wanted: Option<u128>) -> Result<(), Memory>
-    ensures { OnOk result (out.new.items ≡ out.old.items ++ wanted_text wanted) }
+fn put_wanted(
+    alloc: Global,
+    out: &mut Vec<u8>,
+    signed: bool,
+    wanted: Option<u128>,
+) -> Result<(), Memory>
+    ensures { OnOk result (out.new.items ≡ out.old.items ++ wanted_text signed wanted) }
 {
     match wanted {
         None => Ok(()),
         Some(number) => {
             put(out, b" wanted ")?;
-            put_decimal(alloc, out, number)?;
+            put_number(alloc, out, signed, number)?;
             Ok(())
         }
     }
@@ -57,21 +66,33 @@ fn put_where(alloc: Global, out: &mut Vec<u8>, record: &Observation) -> Result<(
     Ok(())
 }
 
+/// The name of a signal, and whether it is signed. Past the last signal the name is empty.
+fn port_of(signals: &[SignalInfo], number: usize) -> (&[u8], bool)
+    ensures name { result.0.now ≡ (info signals.now number).name }
+    ensures signed { result.1 ≡ (info signals.now number).signed }
+{
+    match signals.get(number) {
+        Some(signal) => (signal.name.bytes(), signal.signed),
+        None => (b"", false),
+    }
+}
+
 /// Puts what a record says of its port.
 fn put_seen(
     alloc: Global,
     out: &mut Vec<u8>,
-    ports: &PortTable,
+    signals: &[SignalInfo],
     record: &Observation,
 ) -> Result<(), Memory>
-    ensures { OnOk result (out.new.items ≡ out.old.items ++ seen_text ports.now record.now) }
+    ensures { OnOk result (out.new.items ≡ out.old.items ++ seen_text (info signals.now record.now.port.0) record.now) }
 {
+    let (name, signed) = port_of(signals, record.port.0 as usize);
     put(out, verb(record.wanted))?;
     put(out, b" ")?;
-    put(out, port_name(ports, record.port))?;
+    put(out, name)?;
     put(out, b" = ")?;
-    put_decimal(alloc, out, record.value)?;
-    put_wanted(alloc, out, record.wanted)?;
+    put_number(alloc, out, signed, record.value)?;
+    put_wanted(alloc, out, signed, record.wanted)?;
     Ok(())
 }
 
@@ -79,14 +100,14 @@ fn put_seen(
 fn put_record(
     alloc: Global,
     out: &mut Vec<u8>,
-    ports: &PortTable,
+    signals: &[SignalInfo],
     record: &Observation,
 ) -> Result<(), Memory>
-    ensures { OnOk result (out.new.items ≡ out.old.items ++ record_text ports.now record.now) }
+    ensures { OnOk result (out.new.items ≡ out.old.items ++ record_text signals.now record.now) }
 {
     put_where(alloc, out, record)?;
     put(out, b" ")?;
-    put_seen(alloc, out, ports, record)?;
+    put_seen(alloc, out, signals, record)?;
     put(out, b"\n")?;
     Ok(())
 }
@@ -95,13 +116,13 @@ fn put_record(
 fn put_records(
     alloc: Global,
     out: &mut Vec<u8>,
-    ports: &PortTable,
+    signals: &[SignalInfo],
     records: &[Observation],
 ) -> Result<(), Memory>
-    ensures { OnOk result (out.new.items ≡ out.old.items ++ flat_map (record_text ports.now) records.now) }
+    ensures { OnOk result (out.new.items ≡ out.old.items ++ flat_map (record_text signals.now) records.now) }
 {
     for record in records {
-        put_record(alloc, out, ports, record)?;
+        put_record(alloc, out, signals, record)?;
     }
     Ok(())
 }
@@ -152,17 +173,23 @@ fn put_outcome(alloc: Global, out: &mut Vec<u8>, run: &Run) -> Result<(), Memory
 /// The report of a run on a circuit.
 ///
 /// Its first line is the circuit's name, then come the records of the run in order, each a line,
-/// and last how the run ended, with the numbers of actions and records. Values are decimal. The
-/// one refusal is want of memory. The cost is linear in the length of the text.
+/// and last how the run ended, with the numbers of actions and records. Values are decimal, those of
+/// a signed port with their sign. The one refusal is want of memory. The cost is linear in the length
+/// of the text.
 #[tactic(auto, unfolding(crate::specs::Report::report_text))]
 pub fn report(alloc: Global, design: &Design, run: &Run) -> Result<Vec<u8>, Memory>
-    ensures { IfOk result (λ text. text.items ≡ report_text design.now run.now) }
+    ensures { IfOk result (λ text. text.items ≡ report_text design.now.elab run.now) }
 {
     let mut out = Vec::new(alloc);
     put(&mut out, b"circuit ")?;
     put(&mut out, design.name().bytes())?;
     put(&mut out, b"\n")?;
-    put_records(alloc, &mut out, design.ports(), run.observations.items())?;
+    put_records(
+        alloc,
+        &mut out,
+        design.elab().signals.items(),
+        run.observations.items(),
+    )?;
     put_outcome(alloc, &mut out, run)?;
     Ok(out)
 }

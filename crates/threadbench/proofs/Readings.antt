@@ -12,18 +12,22 @@ use Rattle.fir_read.specs.declared.fault.ReadFault.TheVariants as read
 use Rattle.text_grammar.specs.declared.fault.Kind.TheVariants as kind
 use Rattle.fir_ast.specs.Circuits.{circuit_of, circuit_fault, found, fault_of, place_left}
 use Rattle.fir_read.specs.Faults.{FaultFound}
-use Rattle.threadbench.specs.Forms.{Faulty, read_as, spelled}
-use Rattle.threadbench.specs.Forms.{Refusal}
+use Rattle.design_core.specs.Built.{BuildRefusal, Faulty, read_as, spelled}
+use Rattle.threadbench.specs.Forms.{Unbuilt, told}
 use Rattle.threadbench.specs.Refusals.{refusal_text}
-use Rattle.threadbench.specs.Answers.{LineOfFault}
+use Rattle.threadbench.specs.Answers.{LineOfRead}
+use Rattle.threadbench.proofs.Stages.{refused_by}
 
 found_is : (text : List ℕ) (o : Outcome Circuit) (c : Circuit) → found o ≡ Some c → read_as text o ≡ Ok c
 found_is text (Ok x) c h = let e : x.0 ≡ c = cc in ap (λ (z : Circuit). Ok z) e
 found_is text (Err f) c h = absurd cc
 
-pub found_spelled : (text : List ℕ) (c : Circuit) → circuit_of text ≡ Some c → spelled text ≡ Ok c
+spelled_is : (text : List ℕ) (c : Circuit) → circuit_of text ≡ Some c → spelled text ≡ Ok c
 unfolding circuit_of spelled
-found_spelled text c h = found_is text ((whole circuit).reads (items_of text)) c h
+spelled_is text c h = found_is text ((whole circuit).reads (items_of text)) c h
+
+pub found_spelled : (text : List ℕ) (c : Circuit) → circuit_of text ≡ Some c → told (spelled text) ≡ Ok c
+found_spelled text c h = ap told (spelled_is text c h)
 
 fault_is : (text : List ℕ) (o : Outcome Circuit) (kind : Kind) (place : Place) → fault_of text o ≡ Some (kind, place) → read_as text o ≡ Err (Faulty kind place)
 fault_is text (Ok x) kind place h = absurd cc
@@ -35,10 +39,10 @@ fault_spelled : (text : List ℕ) (kind : Kind) (place : Place) → circuit_faul
 unfolding circuit_fault spelled
 fault_spelled text kind place h = fault_is text ((whole circuit).reads (items_of text)) kind place h
 
-one_answers : (text : List ℕ) (kind : Kind) (place : Place) (line : List ℕ) → circuit_fault text ≡ Some (kind, place) → line ≡ refusal_text (Faulty kind place) → IsErrAnd (spelled text) (λ r. line ≡ refusal_text r)
-one_answers text kind place line h is = rw (fault_spelled text kind place h) is
+one_answers : (text : List ℕ) (kind : Kind) (place : Place) (line : List ℕ) → circuit_fault text ≡ Some (kind, place) → line ≡ refusal_text (Unbuilt (Faulty kind place)) → IsErrAnd (told (spelled text)) (λ r. line ≡ refusal_text r)
+one_answers text kind place line h is = refused_by (spelled text) (Faulty kind place) line (fault_spelled text kind place h) is
 
-pub fault_answers : (text : List ℕ) (fault : ReadFault) (line : List ℕ) → FaultFound text fault → LineOfFault fault line → IsErrAnd (spelled text) (λ r. line ≡ refusal_text r)
+pub fault_answers : (text : List ℕ) (fault : ReadFault) (line : List ℕ) → FaultFound text fault → LineOfRead fault line → IsErrAnd (told (spelled text)) (λ r. line ≡ refusal_text r)
 fault_answers text (read.Syntax place) line h is = one_answers text kind.Syntax place line h is
 fault_answers text (read.Unsupported place form) line h is = one_answers text (kind.Unsupported form) place line h is
 fault_answers text (read.NumberTooWide place) line h is = one_answers text kind.NumberTooWide place line h is

@@ -1,5 +1,5 @@
 -- The texts of refusals: one line each.
-use Rattle.std.specs.Prelude.{ℕ, List, [], ◌∷◌, ◌++◌, codes, Option, Some, None}
+use Rattle.std.specs.Prelude.{ℕ, List, [], ◌∷◌, ◌++◌, codes, flat_map}
 use Rattle.std.specs.Fmt.{decimal}
 use Rattle.tb_base.specs.declared.place.Place.{Place}
 use Rattle.tb_base.specs.Places.{place_text}
@@ -9,7 +9,8 @@ use Rattle.text_grammar.specs.declared.fault.Form.{Form}
 use Rattle.text_grammar.specs.declared.fault.Form.TheVariants as form
 use Rattle.fir_check.specs.declared.best.Rule.{Rule}
 use Rattle.fir_check.specs.declared.best.Rule.TheVariants.{NoMain, DoubleName, UnknownName, WrongKind, WrongFlow, ClockUse, InstanceCycle}
-use Rattle.threadbench.specs.Forms.{Refusal, TooLong, Faulty, Breaks, NotInForm}
+use Rattle.design_core.specs.Built.{BuildRefusal, Faulty, Breaks, TooManyPorts, TooManySignals, TooManyParts, TooWide, BadRange, NotInitialised, Looped}
+use Rattle.threadbench.specs.Forms.{Refusal, TooLong, Unbuilt}
 
 -- the word of a form that is known and not taken
 abbrev pub form_text : Form → List ℕ
@@ -47,6 +48,23 @@ fault_text kind place = place_text place.line place.column ++ (codes ": " ++ kin
 abbrev pub numbered : ℕ → List ℕ → List ℕ
 numbered line text = codes "line " ++ (decimal line ++ (codes ": " ++ text))
 
+-- a loop, closed: `a > b > a`
+abbrev pub loop_text : List (List ℕ) → List ℕ
+loop_text [] = []
+loop_text (name ∷ names) = flat_map (λ n. n ++ codes " > ") (name ∷ names) ++ name
+
+-- why a stage refuses a text
+abbrev pub build_text : BuildRefusal → List ℕ
+build_text (Faulty kind place) = fault_text kind place
+build_text (Breaks rule line) = numbered line (rule_text rule)
+build_text TooManyPorts = codes "too many ports"
+build_text TooManySignals = codes "too many signals"
+build_text TooManyParts = codes "too many parts"
+build_text (TooWide line) = numbered line (codes "too wide")
+build_text (BadRange line) = numbered line (codes "bad range")
+build_text (NotInitialised name) = name ++ codes " is not initialised"
+build_text (Looped names) = codes "loop " ++ loop_text names
+
 -- what is said of a circuit
 abbrev pub circuit_line : List ℕ → List ℕ
 circuit_line text = codes "circuit: " ++ (text ++ 10 ∷ [])
@@ -54,6 +72,4 @@ circuit_line text = codes "circuit: " ++ (text ++ 10 ∷ [])
 -- the text of a circuit's refusal
 unfoldable pub refusal_text : Refusal → List ℕ
 refusal_text TooLong = circuit_line (codes "too long")
-refusal_text (Faulty kind place) = circuit_line (fault_text kind place)
-refusal_text (Breaks rule line) = circuit_line (numbered line (rule_text rule))
-refusal_text NotInForm = circuit_line (codes "not in the first form")
+refusal_text (Unbuilt r) = circuit_line (build_text r)

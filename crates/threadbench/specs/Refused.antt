@@ -3,11 +3,11 @@ use Rattle.std.specs.Prelude.{ℕ, Bool, false, not, ◌&&◌, List, length, Som
 use Rattle.std.specs.declared.option.Option.{Option}
 use Rattle.bench_desk.specs.declared.desk.DeskFile.{DeskFile}
 use Rattle.bench_desk.specs.Meaning.{content}
-use Rattle.sim_plain.specs.Settled.{DesignValue}
-use Rattle.threadbench.specs.Answer.{RunLine, CommandLine, Run, Fmt, test_limit}
+use Rattle.net_core.specs.declared.tree.Elab.{Elab}
+use Rattle.threadbench.specs.Answer.{RunLine, CommandLine, Run, Check, Fmt, test_limit}
 use Rattle.threadbench.specs.Forms.{circuit_in, design_in, acts_for}
 
--- the text is that of a circuit within its limit that a run takes
+-- the text is that of a circuit within its limit that runs
 abbrev pub is_circuit : List ℕ → Bool
 is_circuit text = is_ok (design_in text)
 
@@ -15,13 +15,13 @@ is_circuit text = is_ok (design_in text)
 abbrev pub is_spelled : List ℕ → Bool
 is_spelled text = is_ok (circuit_in text)
 
--- the text is that of a test within its limit and in the first form for the design
-abbrev pub is_test : DesignValue → List ℕ → Bool
-is_test design text = not (nat_lt test_limit (length text)) && is_some (acts_for design text)
+-- the text is that of a test within its limit and in the first form for the circuit
+abbrev pub is_test : Elab → List ℕ → Bool
+is_test e text = not (nat_lt test_limit (length text)) && is_some (acts_for e text)
 
--- the line's test is held, and is none for the design
-abbrev pub refuses_test_of : DesignValue → RunLine → List DeskFile → Bool
-refuses_test_of design line files = elim (content files line.test) [ None ↦ false | Some test ↦ not (is_test design test) ]
+-- the line's test is held, and is none for the circuit
+abbrev pub refuses_test_of : Elab → RunLine → List DeskFile → Bool
+refuses_test_of e line files = elim (content files line.test) [ None ↦ false | Some test ↦ not (is_test e test) ]
 
 -- a file of that name is held, and its text doesn't pass the test
 abbrev pub fails : (List ℕ → Bool) → List ℕ → List DeskFile → Bool
@@ -31,14 +31,16 @@ fails test name files = elim (content files name) [ None ↦ false | Some text �
 abbrev pub refuses_circuit : Option CommandLine → List DeskFile → Bool
 refuses_circuit None files = false
 refuses_circuit (Some (Run line)) files = fails is_circuit line.circuit files
+refuses_circuit (Some (Check name)) files = fails is_circuit name files
 refuses_circuit (Some (Fmt name)) files = fails is_spelled name files
 
 -- the test is refused for the circuit of that text, where it is one
 abbrev pub refuses_test_for : RunLine → List DeskFile → List ℕ → Bool
-refuses_test_for line files text = elim (design_in text) [ Err r ↦ false | Ok design ↦ refuses_test_of design line files ]
+refuses_test_for line files text = elim (design_in text) [ Err r ↦ false | Ok e ↦ refuses_test_of e line files ]
 
 -- the line's circuit is one, and its test is held and is none for it
 abbrev pub refuses_test : Option CommandLine → List DeskFile → Bool
 refuses_test None files = false
 refuses_test (Some (Run line)) files = elim (content files line.circuit) [ None ↦ false | Some text ↦ refuses_test_for line files text ]
+refuses_test (Some (Check name)) files = false
 refuses_test (Some (Fmt name)) files = false

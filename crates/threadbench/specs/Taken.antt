@@ -4,7 +4,7 @@ use Rattle.std.specs.declared.option.Option.{Option}
 use Rattle.bench_desk.specs.declared.desk.DeskFile.{DeskFile}
 use Rattle.bench_desk.specs.declared.desk.Phase.TheVariants.{Reading, Ended}
 use Rattle.bench_desk.specs.Meaning.{Meaning, SlotState, content}
-use Rattle.threadbench.specs.Answer.{RunLine, CommandLine, Run, Fmt, test_limit}
+use Rattle.threadbench.specs.Answer.{RunLine, CommandLine, Run, Check, Fmt, test_limit}
 use Rattle.threadbench.specs.Forms.{circuit_limit}
 use Rattle.threadbench.specs.Refused.{is_circuit}
 
@@ -37,12 +37,13 @@ slots_of_run line files slots =
     ]
 
 -- the slots once a circuit alone was read
-abbrev pub slots_of_fmt : List ℕ → List DeskFile → Slots → Slots
-slots_of_fmt name files slots =
+abbrev pub slots_of_circuit : List ℕ → List DeskFile → Slots → Slots
+slots_of_circuit name files slots =
     elim (content files name) [ None ↦ slots | Some text ↦ record { circuit = read_slot circuit_limit name text; test = slots.test } ]
 
 -- the slots once the line was answered
 abbrev pub slots_after : Option CommandLine → List DeskFile → Slots → Slots
 slots_after None files slots = slots
 slots_after (Some (Run line)) files slots = slots_of_run line files slots
-slots_after (Some (Fmt name)) files slots = slots_of_fmt name files slots
+slots_after (Some (Check name)) files slots = slots_of_circuit name files slots
+slots_after (Some (Fmt name)) files slots = slots_of_circuit name files slots

@@ -1,13 +1,17 @@
 //! The line that says why the text of a circuit is refused.
-ghost use Rattle.std.specs.Prelude.{◌≡◌, ◌++◌, codes, OnOk, IfOk};
-ghost use Rattle.threadbench.specs.Forms as forms;
-ghost use Rattle.threadbench.specs.Refusals.{form_text, kind_text, numbered, circuit_line, refusal_text};
-ghost use Rattle.threadbench.specs.Answers.{LineOfFault, LineOfBreak};
+ghost use Rattle.std.specs.Prelude.{◌≡◌, ◌++◌, codes, flat_map, OnOk, IfOk};
+ghost use Rattle.design_core.specs.Built as built;
+ghost use Rattle.threadbench.specs.Forms.{Unbuilt};
+ghost use Rattle.threadbench.specs.Refusals.{form_text, kind_text, numbered, loop_text, circuit_line, refusal_text};
+ghost use Rattle.threadbench.specs.Answers.{LineOfRead, LineOfCheck, LineOfFlat, LineOfWidth, LineOfBuild};
 
+use design_core::BuildFault;
 use fir_check::CheckFault;
+use fir_flat::FlatFault;
 use fir_read::ReadFault;
+use fir_widths::WidthFault;
 use std::alloc::Global;
-use tb_base::{Memory, Place, put, put_decimal, put_place};
+use tb_base::{Memory, Name, Place, put, put_decimal, put_place};
 use text_grammar::{Form, Kind};
 
 /// The word of a form that is known and not taken.
@@ -51,7 +55,7 @@ fn put_kind(out: &mut Vec<u8>, kind: Kind) -> Result<(), Memory>
 /// The line of a faulty place.
 #[tactic(auto, unfolding(crate::specs::Refusals::refusal_text))]
 fn fault_line(alloc: Global, kind: Kind, place: Place) -> Result<Vec<u8>, Memory>
-    ensures { IfOk result (λ v. v.items ≡ refusal_text (forms.Faulty kind place)) }
+    ensures { IfOk result (λ v. v.items ≡ refusal_text (Unbuilt (built.Faulty kind place))) }
 {
     let mut out = Vec::new(alloc);
     put(&mut out, b"circuit: ")?;
@@ -62,7 +66,7 @@ fn fault_line(alloc: Global, kind: Kind, place: Place) -> Result<Vec<u8>, Memory
     Ok(out)
 }
 
-/// The line of a rule that a line breaks.
+/// The line of a rule that a line of the text breaks.
 fn break_line(alloc: Global, line: u32, rule: &[u8]) -> Result<Vec<u8>, Memory>
     ensures { IfOk result (λ v. v.items ≡ circuit_line (numbered line rule.now)) }
 {
@@ -75,9 +79,75 @@ fn break_line(alloc: Global, line: u32, rule: &[u8]) -> Result<Vec<u8>, Memory>
     Ok(out)
 }
 
+/// The line that says so much of a circuit.
+fn plain_line(alloc: Global, text: &[u8]) -> Result<Vec<u8>, Memory>
+    ensures { IfOk result (λ v. v.items ≡ circuit_line text.now) }
+{
+    let mut out = Vec::new(alloc);
+    put(&mut out, b"circuit: ")?;
+    put(&mut out, text)?;
+    put(&mut out, b"\n")?;
+    Ok(out)
+}
+
+/// The line of a signal that isn't initialised.
+#[tactic(auto, unfolding(crate::specs::Refusals::refusal_text))]
+fn open_line(alloc: Global, name: &Name) -> Result<Vec<u8>, Memory>
+    ensures { IfOk result (λ v. v.items ≡ refusal_text (Unbuilt (built.NotInitialised name.now))) }
+{
+    let mut out = Vec::new(alloc);
+    put(&mut out, b"circuit: ")?;
+    put(&mut out, name.bytes())?;
+    put(&mut out, b" is not initialised\n")?;
+    Ok(out)
+}
+
+/// Puts a name with an arrow to the next.
+fn put_arrow(out: &mut Vec<u8>, name: &Name) -> Result<(), Memory>
+    ensures { OnOk result (out.new.items ≡ out.old.items ++ (name.now ++ codes " > ")) }
+{
+    put(out, name.bytes())?;
+    put(out, b" > ")?;
+    Ok(())
+}
+
+/// Puts names, each with an arrow to the next.
+fn put_arrows(out: &mut Vec<u8>, names: &[Name]) -> Result<(), Memory>
+    ensures { OnOk result (out.new.items ≡ out.old.items ++ flat_map (λ n. n ++ codes " > ") names.now) }
+{
+    for name in names {
+        put_arrow(out, name)?;
+    }
+    Ok(())
+}
+
+/// Puts the names of a loop, and the first again.
+fn put_loop(out: &mut Vec<u8>, names: &[Name]) -> Result<(), Memory>
+    ensures { OnOk result (out.new.items ≡ out.old.items ++ loop_text names.now) }
+{
+    let [first, ..] = names else {
+        return Ok(());
+    };
+    put_arrows(out, names)?;
+    put(out, first.bytes())?;
+    Ok(())
+}
+
+/// The line of a loop.
+#[tactic(auto, unfolding(crate::specs::Refusals::refusal_text))]
+fn loop_line(alloc: Global, names: &[Name]) -> Result<Vec<u8>, Memory>
+    ensures { IfOk result (λ v. v.items ≡ refusal_text (Unbuilt (built.Looped names.now))) }
+{
+    let mut out = Vec::new(alloc);
+    put(&mut out, b"circuit: loop ")?;
+    put_loop(&mut out, names)?;
+    put(&mut out, b"\n")?;
+    Ok(out)
+}
+
 /// The line that a fault of reading is answered with.
 pub fn read_refusal(alloc: Global, fault: ReadFault) -> Result<Vec<u8>, Memory>
-    ensures { IfOk result (λ v. LineOfFault fault v.items) }
+    ensures { IfOk result (λ v. LineOfRead fault v.items) }
 {
     match fault {
         ReadFault::Syntax(place) => fault_line(alloc, Kind::Syntax, place),
@@ -90,8 +160,8 @@ pub fn read_refusal(alloc: Global, fault: ReadFault) -> Result<Vec<u8>, Memory>
 
 /// The line that a broken rule is answered with.
 #[tactic(auto, unfolding(crate::specs::Refusals::refusal_text))]
-pub fn check_refusal(alloc: Global, fault: CheckFault) -> Result<Vec<u8>, Memory>
-    ensures { IfOk result (λ v. LineOfBreak fault v.items) }
+fn check_refusal(alloc: Global, fault: CheckFault) -> Result<Vec<u8>, Memory>
+    ensures { IfOk result (λ v. LineOfCheck fault v.items) }
 {
     match fault {
         CheckFault::NoMain(line) => break_line(alloc, line, b"no main module"),
@@ -102,5 +172,45 @@ pub fn check_refusal(alloc: Global, fault: CheckFault) -> Result<Vec<u8>, Memory
         CheckFault::ClockUse(line) => break_line(alloc, line, b"clock use"),
         CheckFault::InstanceCycle(line) => break_line(alloc, line, b"instance cycle"),
         CheckFault::Memory(memory) => Err(memory),
+    }
+}
+
+/// The line that a limit of the elaboration is answered with.
+#[tactic(auto, unfolding(crate::specs::Refusals::refusal_text))]
+fn flat_refusal(alloc: Global, fault: FlatFault) -> Result<Vec<u8>, Memory>
+    ensures { IfOk result (λ v. LineOfFlat fault v.items) }
+{
+    match fault {
+        FlatFault::TooManyPorts => plain_line(alloc, b"too many ports"),
+        FlatFault::TooManySignals => plain_line(alloc, b"too many signals"),
+        FlatFault::TooManyParts => plain_line(alloc, b"too many parts"),
+        FlatFault::Memory(memory) => Err(memory),
+    }
+}
+
+/// The line that a broken rule of the widths is answered with.
+#[tactic(auto, unfolding(crate::specs::Refusals::refusal_text))]
+fn width_refusal(alloc: Global, fault: WidthFault) -> Result<Vec<u8>, Memory>
+    ensures { IfOk result (λ v. LineOfWidth fault v.items) }
+{
+    match fault {
+        WidthFault::TooWide(line) => break_line(alloc, line, b"too wide"),
+        WidthFault::BadRange(line) => break_line(alloc, line, b"bad range"),
+        WidthFault::Memory(memory) => Err(memory),
+    }
+}
+
+/// The line that a fault of building is answered with.
+pub fn build_refusal(alloc: Global, fault: BuildFault) -> Result<Vec<u8>, Memory>
+    ensures { IfOk result (λ v. LineOfBuild fault v.items) }
+{
+    match fault {
+        BuildFault::Read(fault) => read_refusal(alloc, fault),
+        BuildFault::Check(fault) => check_refusal(alloc, fault),
+        BuildFault::Flat(fault) => flat_refusal(alloc, fault),
+        BuildFault::Width(fault) => width_refusal(alloc, fault),
+        BuildFault::Resolve(name) => open_line(alloc, &name),
+        BuildFault::Loop(names) => loop_line(alloc, names.items()),
+        BuildFault::Memory(memory) => Err(memory),
     }
 }

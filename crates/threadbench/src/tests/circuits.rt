@@ -1,6 +1,6 @@
 //! Circuits that are printed or refused, through the whole command.
 
-use super::{ADDER, ADDER_TEST, NEVER, USAGE, desk, status_of};
+use super::{ADDER, ADDER_REPORT, ADDER_TEST, NEVER, USAGE, desk, status_of};
 use bench_desk::Lane;
 use std::alloc::{AllocError, Global};
 use std::test::Fail;
@@ -37,7 +37,7 @@ const WITH_RESET_PRINTED: &str = "circuit B :
     connect io.b, r
 ";
 
-const QUEUE: &str = "FIRRTL version 3.3.0
+pub(super) const QUEUE: &str = "FIRRTL version 3.3.0
 circuit Q2 :
   module Q2 : @[src/main/scala/Q2.scala 7:7]
     input clock : Clock @[src/main/scala/Q2.scala 7:7]
@@ -70,7 +70,7 @@ circuit Q2 :
 ";
 
 /// A text with its first piece of these bytes replaced.
-fn with(alloc: Global, text: &str, old: &str, new: &str) -> Result<String, AllocError> {
+pub(super) fn with(alloc: Global, text: &str, old: &str, new: &str) -> Result<String, AllocError> {
     let at = text.find(old).unwrap_or(text.len());
     let mut out = String::from_str(alloc, text.get(..at).unwrap_or(""))?;
     out.push_str(new)?;
@@ -154,20 +154,18 @@ fn a_circuit_that_breaks_a_rule_is_printed_and_not_run(rt: HostRuntime) -> Resul
 }
 
 #[test]
-fn a_circuit_in_no_first_form_is_printed_and_not_run(rt: HostRuntime) -> Result<(), Fail> {
+fn a_circuit_that_is_left_open_is_printed_and_not_run(rt: HostRuntime) -> Result<(), Fail> {
     let alloc = rt.alloc();
     let skip = with(alloc, ADDER, "connect out, add(a, b)", "skip")?;
-    for text in [skip.as_str(), WITH_RESET_PRINTED] {
-        let (status, put) = run(alloc, text)?;
-        assert_eq!(rt; status, 4);
-        assert_eq!(rt;
-            put.as_slice(),
-            b"circuit: not in the first form\n".as_slice()
-        );
-        let (status, put) = printed(alloc, text)?;
-        assert_eq!(rt; status, 0);
-        assert_eq!(rt; put.as_slice(), text.as_bytes());
-    }
+    let (status, put) = run(alloc, skip.as_str())?;
+    assert_eq!(rt; status, 4);
+    assert_eq!(rt;
+        put.as_slice(),
+        b"circuit: out is not initialised\n".as_slice()
+    );
+    let (status, put) = printed(alloc, skip.as_str())?;
+    assert_eq!(rt; status, 0);
+    assert_eq!(rt; put.as_slice(), skip.as_bytes());
     Ok(())
 }
 
@@ -181,6 +179,9 @@ fn a_circuit_has_at_most_so_many_bytes(rt: HostRuntime) -> Result<(), Fail> {
     let (status, put) = printed(alloc, text.as_str())?;
     assert_eq!(rt; status, 0);
     assert_eq!(rt; put.as_slice(), ADDER.as_bytes());
+    let (status, put) = run(alloc, text.as_str())?;
+    assert_eq!(rt; status, 0);
+    assert_eq!(rt; put.as_slice(), ADDER_REPORT.as_bytes());
     text.push_str("\n")?;
     for (status, put) in [printed(alloc, text.as_str())?, run(alloc, text.as_str())?] {
         assert_eq!(rt; status, 4);
@@ -206,17 +207,24 @@ fn each_front_of_a_circuit_is_printed_or_refused(rt: HostRuntime) -> Result<(), 
 }
 
 #[test]
-fn words_of_fmt(rt: HostRuntime) -> Result<(), Fail> {
+fn words_of_fmt_and_check(rt: HostRuntime) -> Result<(), Fail> {
     let alloc = rt.alloc();
-    let lines: [&[&str]; 3] = [&["fmt"], &["fmt", "c", "t"], &["check", "c"]];
+    let lines: [&[&str]; 4] = [
+        &["fmt"],
+        &["fmt", "c", "t"],
+        &["check"],
+        &["check", "c", "t"],
+    ];
     for words in lines {
         let mut desk = desk(alloc, ADDER, "", 4096, NEVER)?;
         assert_eq!(rt; status_of(alloc, words, &mut desk)?, 64);
         assert_eq!(rt; desk.lane(Lane::Report), USAGE.as_bytes());
     }
-    let mut desk = desk(alloc, ADDER, "", 4096, NEVER)?;
-    assert_eq!(rt; status_of(alloc, &["fmt", "d"], &mut desk)?, 6);
-    assert_eq!(rt; desk.lane(Lane::Report).len(), 0);
+    for command in ["fmt", "check"] {
+        let mut desk = desk(alloc, ADDER, "", 4096, NEVER)?;
+        assert_eq!(rt; status_of(alloc, &[command, "d"], &mut desk)?, 6);
+        assert_eq!(rt; desk.lane(Lane::Report).len(), 0);
+    }
     Ok(())
 }
 

@@ -3,4 +3,4 @@ use Rattle.bench_core.proofs.Running.{RunsOn}
 use Rattle.bench_core.proofs.run.run_first.Given as goal
 
 abbrev pub invariant-loop-act : goal.invariant-loop-act
-invariant-loop-act l = RunsOn l.fn.design l.fn.acts l.act-index l.bench.engine.net (world_of l.bench)
+invariant-loop-act l = RunsOn l.fn.design.elab l.fn.acts l.act-index l.bench.device.elab (world_of l.bench)
