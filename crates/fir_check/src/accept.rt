@@ -104,12 +104,18 @@ fn note_all_ports(alloc: Global, modules: &[Module], best: &mut Best) -> Result<
 }
 
 /// Takes note of the main module's ports that break a rule on these alone.
-fn note_ports_of_main(name: &[u8], modules: &[Module], table: &NameTable, best: &mut Best)
+fn note_ports_of_main(
+    alloc: Global,
+    name: &[u8],
+    modules: &[Module],
+    table: &NameTable,
+    best: &mut Best,
+)
     requires { NamesModules modules.now table.now }
     ensures { best.new ≡ lowered best.old (named_breaks (module_named name.now modules.now)) }
 {
     if let Some(number) = table.find(name) {
-        note_main_ports(modules[number].ports.items(), best);
+        note_main_ports(alloc, modules[number].ports.items(), best);
     }
 }
 
@@ -174,7 +180,7 @@ fn first_break(alloc: Global, circuit: &Circuit) -> Result<Option<Break>, Memory
     note_missing_main(circuit, &mut best);
     let table = name_modules(alloc, modules, &mut best)?;
     note_all_ports(alloc, modules, &mut best)?;
-    note_ports_of_main(circuit.name.bytes(), modules, &table, &mut best);
+    note_ports_of_main(alloc, circuit.name.bytes(), modules, &table, &mut best);
     note_all_statements(alloc, modules, &table, &mut best)?;
     note_cycles(alloc, modules, &table, &mut best)?;
     let found = best.found();

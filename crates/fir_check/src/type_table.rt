@@ -81,9 +81,9 @@ fn row_of<'a>(alloc: Global, ty: &'a Ty, parts: Vec<usize>, shape: usize) -> Typ
 {
     TypeRow {
         ty,
-        flips: has_flip(ty),
-        clocks: holds_clock(ty),
-        against: has_against_leaf(ty),
+        flips: has_flip(alloc, ty),
+        clocks: holds_clock(alloc, ty),
+        against: has_against_leaf(alloc, ty),
         fields: fields_table(alloc, ty),
         parts,
         shape,
