@@ -58,7 +58,7 @@ fn a_loop_has_one_part(rt: HostRuntime) -> Result<(), Fail> {
         let parts = parts_of(rt.alloc(), &lists, &readers)
             .ok()
             .ok_or("no memory")?;
-        assert!(rt; parts.as_slice() == [0, 0, 2].as_slice());
+        assert!(rt; parts.as_slice() == [1, 1, 3].as_slice());
     }
     Ok(())
 }
