@@ -62,22 +62,6 @@ in_none x h = cc
 no_more : (n : ℕ) → n ≤ n
 no_more n = omega arith
 
--- the number had a distance
-pub reach_old : (far level x : ℕ) (D next : List ℕ) → (distance_of D far x ≢ far) → ((k : ℕ) → distance_of D far k ≤ far) → Spread (λ k. k ≡ x) far level D next D next
-reach_old far level x D next n b = record {
-  places = refl;
-  bounded = b;
-  each = λ k. inl refl;
-  all = λ k e. subst (λ q. distance_of D far q < far) (sym e) (strict (distance_of D far x) n (b x));
-  of_next = λ k h. inl h;
-  kept = λ k h. h;
-  count = refl;
-  fewer = no_more (unreached far D);
-}
-  where
-    strict : (d : ℕ) → (d ≢ far) → d ≤ far → d < far
-    strict d n b = omega (arith, n, b)
-
 -- the number had none
 pub reach_new : (far level x : ℕ) (D next : List ℕ) → x < length D → distance_of D far x ≡ far → level + unreached far D ≤ far → ((k : ℕ) → distance_of D far k ≤ far)
     → Spread (λ k. k ≡ x) far level D next (set D x level) (next ++ x ∷ [])
@@ -177,9 +161,6 @@ spread_on P Q R far level D0 n0 D1 n1 D2 n2 p q r s t = record {
     still k h (inl a) = a ∙ h
     still k h (inr a) = a.1
 
-pub room_kept : (P : ℕ → Type 0) (far level : ℕ) (D first E next : List ℕ) → Spread P far level D first E next → level + unreached far D ≤ far → level + unreached far E ≤ far
-room_kept P far level D first E next s m = let f : unreached far E ≤ unreached far D = s.fewer in omega (arith, f, m)
-
 -- ---- over a list of numbers
 abbrev pub OwnIn : ℕ → List ℕ → ℕ → Type 0
 OwnIn own list k = (k < own) × (has list k ≡ true)
@@ -231,49 +212,6 @@ front_more rows own level front row i D0 n0 D1 n1 D2 n2 h r s t =
     (λ e. let g : RowReads rows own k (get_or front i 0) = subst (λ q. RowReads rows own k q) e a.2 in inr (g.0, r g.0 ∙ g.1, g.2))
     (has_take front i 0 a.0 h a.1))
     s t
-
--- ---- conditions that were entered
-pub entered_on : (rows : Rows) (own level : ℕ) (marks : List Bool) (P : ℕ → Type 0) (D first E next : List ℕ) → AllEntered rows own marks D → Spread P own level D first E next → AllEntered rows own marks E
-entered_on rows own level marks P D first E next a s c k m h r = spread_keeps P own level D first E next s k (a c k m h r)
-
--- a condition was entered before: all that reads it has its distance
-pub passed_entry : (rows : Rows) (own level x : ℕ) (marks : List Bool) (D next : List ℕ) → own ≤ x → ((k : ℕ) → distance_of D own k ≤ own) → AllEntered rows own marks D → is_marked marks x ≡ true
-    → Spread (EntryReaches rows own x) own level D next D next
-passed_entry rows own level x marks D next o b a m = spread_none (EntryReaches rows own x) own level D next b (λ k e. at k e.0 e.1)
-  where
-    at : (k : ℕ) → k < own → (k ≡ x) ⊎ ((own ≤ x) × (in_row rows x k ≡ true)) → distance_of D own k < own
-    at k h (inl e) = absurd (omega (arith, h, e, o))
-    at k h (inr r) = a x k m h r.1
-
--- a condition is entered: what reads it is reached
-pub new_entry : (rows : Rows) (own level x : ℕ) (row D first E next : List ℕ) → own ≤ x → ((k : ℕ) → has row k ≡ in_row rows x k) → Spread (OwnIn own row) own level D first E next
-    → Spread (EntryReaches rows own x) own level D first E next
-new_entry rows own level x row D first E next o r s = spread_map (OwnIn own row) (EntryReaches rows own x) own level D first E next
-    (λ k a. (a.0, inr (o, sym (r k) ∙ a.1)))
-    (λ k a. (a.0, at k a.0 a.1))
-    s
-  where
-    at : (k : ℕ) → k < own → (k ≡ x) ⊎ ((own ≤ x) × (in_row rows x k ≡ true)) → has row k ≡ true
-    at k h (inl e) = absurd (omega (arith, h, e, o))
-    at k h (inr q) = r k ∙ q.1
-
--- a number below `own` is reached itself
-pub own_entry : (rows : Rows) (own level x : ℕ) (D first E next : List ℕ) → x < own → Spread (λ k. k ≡ x) own level D first E next → Spread (EntryReaches rows own x) own level D first E next
-own_entry rows own level x D first E next h s = spread_map (λ k. k ≡ x) (EntryReaches rows own x) own level D first E next
-    (λ k e. (subst (λ q. q < own) (sym e) h, inl e))
-    (λ k a. at k a.1)
-    s
-  where
-    at : (k : ℕ) → (k ≡ x) ⊎ ((own ≤ x) × (in_row rows x k ≡ true)) → k ≡ x
-    at k (inl e) = e
-    at k (inr q) = absurd (let o : own ≤ x = q.0 in omega (arith, o, h))
-
-pub entered_more : (rows : Rows) (own level x : ℕ) (marks after : List Bool) (D first E next : List ℕ) → ((k : ℕ) → is_marked after k ≡ true → (is_marked marks k ≡ true) ⊎ (k ≡ x))
-    → own ≤ x → AllEntered rows own marks D → Spread (EntryReaches rows own x) own level D first E next → AllEntered rows own after E
-entered_more rows own level x marks after D first E next only o a s c k m h r = ⊎_elim
-    (λ b. spread_keeps (EntryReaches rows own x) own level D first E next s k (a c k b h r))
-    (λ e. s.all k (h, inr (o, subst (λ q. in_row rows q k ≡ true) e r)))
-    (only c m)
 
 pub none_entered : (rows : Rows) (own n : ℕ) (D : List ℕ) → AllEntered rows own (replicate n false) D
 none_entered rows own n D c k m = absurd (no_mark n c m)

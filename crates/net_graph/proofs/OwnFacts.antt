@@ -207,15 +207,6 @@ no_loops_of_order R own n order h o x other l = ordered_no_loop R own order o.fo
 pub named_same : (R S : ℕ → ℕ → Bool) (own : ℕ) → ((x y : ℕ) → R x y ≡ S x y) → (x : ℕ) (xs : List ℕ) → IsNamedLoop (ReadsOver R own) x xs → IsNamedLoop (ReadsOver S own) x xs
 named_same R S own e x xs n = named_map (ReadsOver R own) (ReadsOver S own) (over_same R S own e) (over_same S R own (λ a b. sym (e a b))) x xs n
 
--- optional results
-pub some_to : {V : Type 0} (P Q : V → Type 0) → ((v : V) → P v → Q v) → (o : Option V) → IfSome o P → IfSome o Q
-some_to P Q f None h = h
-some_to P Q f (Some v) h = f v h
-
-pub none_to : {V : Type 0} (P Q : Type 0) → (P → Q) → (o : Option V) → IfNone o P → IfNone o Q
-none_to P Q f None h = f h
-none_to P Q f (Some v) h = h
-
 pub none_holds : {V : Type 0} (P : Type 0) (o : Option V) → o ≡ None → IfNone o P → P
 none_holds P o e h = subst (λ q. IfNone q P) e h
 

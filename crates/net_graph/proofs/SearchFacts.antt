@@ -66,37 +66,12 @@ pub list_more : (list : List ℕ) (i : ℕ) (D : ℕ → ℕ) (v m z : ℕ) → 
 list_more list i D v m z h s n = among_on (λ w. has (take i list) w ≡ true) (λ w. w ≡ get_or list i 0) (λ w. has (take (i + 1) list) w ≡ true) D v m z
     (λ w k. has_take list i 0 w h k) s (among_nearer D m (get_or list i 0) z n)
 
--- ---- entries of a list
-pub entry_below : (lists : List (List ℕ)) (own : ℕ) (passed : List Bool) (y : ℕ) (D : ℕ → ℕ) (v z : ℕ) → (y < own) ⊎ (is_marked passed y ≡ true) → NearerOf D v y z
-    → NearestAmong (UnpassedEntry lists own passed y) D v z
-entry_below lists own passed y D v z b n = among_on (λ w. w ≡ y) (λ w. ⊥) (UnpassedEntry lists own passed y) D v z z (λ w u. at w u b) (among_nearer D v y z n) (among_none (λ w. ⊥) D z (λ w a. a))
-  where
-    at : (w : ℕ) → UnpassedEntry lists own passed y w → (y < own) ⊎ (is_marked passed y ≡ true) → (w ≡ y) ⊎ ⊥
-    at w (inl e) b = inl e
-    at w (inr u) (inl h) = absurd (let o : own ≤ y = u.0 in omega (arith, o, h))
-    at w (inr u) (inr m) = absurd (both_ways (is_marked passed y) u.1 m)
-
-pub entry_over : (lists : List (List ℕ)) (own : ℕ) (passed : List Bool) (y : ℕ) (list : List ℕ) (D : ℕ → ℕ) (v m z : ℕ) → ((w : ℕ) → has list w ≡ reads_in lists y w) → NearerOf D v y m
-    → NearestAmong (λ w. has list w ≡ true) D m z → NearestAmong (UnpassedEntry lists own passed y) D v z
-entry_over lists own passed y list D v m z e n s = among_on (λ w. w ≡ y) (λ w. has list w ≡ true) (UnpassedEntry lists own passed y) D v m z (λ w u. at w u) (among_nearer D v y m n) s
-  where
-    at : (w : ℕ) → UnpassedEntry lists own passed y w → (w ≡ y) ⊎ (has list w ≡ true)
-    at w (inl q) = inl q
-    at w (inr u) = inr (e w ∙ u.2)
-
 -- what the entries of a part of a list stand for
 abbrev pub TakenReads : List (List ℕ) → ℕ → List Bool → List ℕ → ℕ → Type 0
 TakenReads lists own passed list w = (y : ℕ) × (has list y ≡ true) × UnpassedEntry lists own passed y w
 
 abbrev pub MarksOf : ℕ → (before now : List Bool) → List ℕ → Type 0
 MarksOf own before now list = (c : ℕ) → is_marked now c ≡ true → (is_marked before c ≡ true) ⊎ ((own ≤ c) × (has list c ≡ true))
-
-pub none_taken : (lists : List (List ℕ)) (own : ℕ) (passed : List Bool) (list : List ℕ) (D : ℕ → ℕ) (v : ℕ) → NearestAmong (TakenReads lists own passed (take 0 list)) D v v
-none_taken lists own passed list D v = among_none (TakenReads lists own passed (take 0 list)) D v (λ w t. none list t.0 t.1)
-  where
-    none : (xs : List ℕ) (w : ℕ) → has (take 0 xs) w ≡ true → ⊥
-    none [] w m = cc
-    none (a ∷ rest) w m = cc
 
 pub taken_more : (lists : List (List ℕ)) (own : ℕ) (before now : List Bool) (list : List ℕ) (i : ℕ) (D : ℕ → ℕ) (v m z : ℕ) → i < length list → MarksOf own before now (take i list)
     → NearestAmong (TakenReads lists own before (take i list)) D v m → NearestAmong (UnpassedEntry lists own now (get_or list i 0)) D m z
@@ -253,9 +228,6 @@ behind_none (x ∷ xs) = ap (λ (o : List ℕ). x ∷ o) (behind_none xs)
 append_assoc : (xs ys zs : List ℕ) → (xs ++ ys) ++ zs ≡ xs ++ (ys ++ zs)
 append_assoc [] ys zs = refl
 append_assoc (x ∷ xs) ys zs = ap (λ (o : List ℕ). x ∷ o) (append_assoc xs ys zs)
-
-pub descends_first : (G : ℕ → ℕ → Type 0) (D : ℕ → ℕ) (target far from : ℕ) (first : List ℕ) → D from < far → Descends G D target far from from first first
-descends_first G D target far from first h = record { near = h; so_far = λ ys f. (ys, f, refl) }
 
 pub descends_next : (G : ℕ → ℕ → Type 0) (D : ℕ → ℕ) (target far from x z : ℕ) (first path path2 : List ℕ) → Descends G D target far from x first path → StepsTo G D x z → path2 ≡ path ++ x ∷ []
     → Descends G D target far from z first path2
