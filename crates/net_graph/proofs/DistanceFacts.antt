@@ -1,5 +1,5 @@
 -- Distances level by level.
-use Rattle.std.proofs.Common.{◌≡◌, ◌≢◌, ◌∙◌, sym, ap, subst, ℕ, zero, suc, ◌+◌, ◌<◌, ◌≤◌, Bool, true, false, List, [], ◌∷◌, ◌++◌, nat_eq, ◌⊎◌, inl, inr, refl, arith, ⊎_elim, length, set, replicate, take, get_or, if◌then◌else◌}
+use Rattle.std.proofs.Common.{◌≡◌, ◌∙◌, sym, ap, subst, ℕ, zero, suc, ◌+◌, ◌<◌, ◌≤◌, Bool, true, false, List, [], ◌∷◌, ◌++◌, nat_eq, ◌⊎◌, inl, inr, refl, arith, ⊎_elim, length, set, replicate, take, get_or, if◌then◌else◌}
 use Rattle.std.proofs.lemmas.Bool.{or_cases, or_left, or_right, eq-eqb, eqb-true, cases_eq, ne_eqb}
 use Rattle.std.proofs.lemmas.List.{length-set}
 use Rattle.std.specs.declared.vec.Vec.{Vec}
@@ -7,7 +7,6 @@ use Rattle.std.specs.declared.alloc.Global.{Global}
 use Rattle.net_core.specs.Rules.{has}
 use Rattle.net_graph.specs.Readers.{in_row}
 use Rattle.net_graph.specs.Distances.{distance_of, unreached, EntryReaches, RowReads, ReadsFront, Level, Spread, AllEntered, Measures}
-use Rattle.net_graph.specs.Marks.{is_marked}
 use Rattle.net_graph.proofs.HasFacts.{has_append, has_head, has_take, has_wider, has_newest}
 use Rattle.net_graph.proofs.MarkFacts.{no_mark}
 

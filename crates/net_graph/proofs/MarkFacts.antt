@@ -1,5 +1,5 @@
 -- Marks of numbers.
-use Rattle.std.proofs.Common.{◌≡◌, ℕ, zero, suc, ◌<◌, Bool, true, false, List, [], ◌∷◌, ◌⊎◌, inl, inr, refl, arith, length, set, replicate}
+use Rattle.std.proofs.Common.{◌≡◌, ℕ, zero, suc, true, false, replicate}
 use Rattle.net_graph.specs.Marks.{is_marked}
 
 pub no_mark : (n x : ℕ) → is_marked (replicate n false) x ≡ true → ⊥

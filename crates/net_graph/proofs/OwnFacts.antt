@@ -1,9 +1,8 @@
 -- Reads between the signals of the circuit.
-use Rattle.std.proofs.Common.{◌≡◌, ◌∙◌, sym, ap, subst, ℕ, zero, suc, ◌+◌, ◌<◌, ◌≤◌, Bool, true, false, List, [], ◌∷◌, ◌++◌, ◌||◌, nat_eq, nat_lt, ◌⊎◌, inl, inr, refl, arith, ⊎_elim, length, drop, drop-cons, add-one, get_or, if◌then◌else◌}
+use Rattle.std.proofs.Common.{◌≡◌, ◌∙◌, sym, ap, subst, ℕ, suc, ◌+◌, ◌<◌, ◌≤◌, Bool, true, false, List, [], ◌∷◌, nat_eq, nat_lt, ◌⊎◌, inl, inr, refl, arith, ⊎_elim, length, if◌then◌else◌}
 use Rattle.std.proofs.lemmas.Bool.{or_cases, or_left, or_right, eq-eqb, eqb-true, cases_eq, cases_Bool}
 use Rattle.std.specs.Prelude.{IfSome, IfNone, Option, None, Some}
 use Rattle.std.proofs.lemmas.Grind.{common_steps}
-use Rattle.std.proofs.lemmas.List.{get_or_past}
 use Rattle.std.specs.List.{IsDistinct}
 use Rattle.net_core.specs.Rules.{Rules, has}
 use Rattle.net_core.proofs.Acyclic.{Path, last, more, extend, NoCycle, chase}

@@ -1,6 +1,6 @@
-use Rattle.std.proofs.Common.{◌≡◌, ◌∙◌, sym, ap, subst, ◌≤◌, ◌+◌, ◌∷◌, [], List, Bool, false, ℕ, length, take, drop, ◌++◌, set, replicate, arith}
+use Rattle.std.proofs.Common.{◌≡◌, sym, subst, ◌≤◌, ◌+◌, ◌∷◌, [], List, Bool, false, ℕ, length, take, drop, ◌++◌, set, replicate, arith}
 use Rattle.std.proofs.lemmas.Grind.{common_steps}
-use Rattle.net_graph.specs.Distances.{distance_of, Level, RowReads, ReadsFront, Spread, AllEntered, Measures}
+use Rattle.net_graph.specs.Distances.{Level, RowReads, ReadsFront, Spread, AllEntered}
 use Rattle.net_graph.proofs.DistanceFacts.{first_level, level_next, none_entered, all_measured}
 use Rattle.net_graph.proofs.distance.distances.Goals as goal
 

@@ -1,4 +1,4 @@
-use Rattle.std.proofs.Common.{◌≡◌, ◌∙◌}
+use Rattle.std.proofs.Common.{◌∙◌}
 use Rattle.net_graph.proofs.DistanceFacts.{front_more}
 use Rattle.net_graph.proofs.distance.next_level.Goals as goal
 

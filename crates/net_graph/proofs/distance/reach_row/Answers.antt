@@ -1,4 +1,4 @@
-use Rattle.std.proofs.Common.{◌≡◌, ◌≤◌, ◌∙◌, subst, ℕ, List, take, length, arith}
+use Rattle.std.proofs.Common.{◌≤◌, ◌∙◌, subst, ℕ, List, length, arith}
 use Rattle.std.proofs.lemmas.List.{take_all}
 use Rattle.net_graph.specs.Distances.{Spread}
 use Rattle.net_graph.proofs.DistanceFacts.{RowReaches, row_more}

@@ -1,4 +1,4 @@
-use Rattle.std.proofs.Common.{◌≡◌, ◌<◌, ◌≤◌, sym, subst, ℕ, true, arith, ⊎_elim}
+use Rattle.std.proofs.Common.{◌<◌, ◌≤◌, subst, arith, ⊎_elim}
 use Rattle.std.proofs.lemmas.Grind.{common_steps}
 use Rattle.std.proofs.lemmas.Bool.{cases_eq}
 use Rattle.net_graph.specs.Graphs.{reads_in}

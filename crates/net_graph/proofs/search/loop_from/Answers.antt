@@ -1,4 +1,4 @@
-use Rattle.std.proofs.Common.{◌≡◌, sym, ap, subst, ℕ, List, Bool, true, false, length, replicate, arith}
+use Rattle.std.proofs.Common.{◌≡◌, sym, subst, ℕ, List, Bool, true, false, length, replicate, arith}
 use Rattle.std.proofs.lemmas.Grind.{common_steps}
 use Rattle.net_graph.specs.Graphs.{reads_in}
 use Rattle.net_graph.specs.Marks.{is_marked}

@@ -1,4 +1,4 @@
-use Rattle.std.proofs.Common.{◌≡◌, ◌⊎◌, sym, subst, true, inr, ⊎_elim, get_or}
+use Rattle.std.proofs.Common.{◌≡◌, ◌⊎◌, sym, subst, true, inr, ⊎_elim}
 use Rattle.net_core.specs.Rules.{has}
 use Rattle.net_graph.specs.Distances.{distance_of}
 use Rattle.net_graph.proofs.HasFacts.{has_at}

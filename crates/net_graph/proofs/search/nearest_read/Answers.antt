@@ -1,6 +1,5 @@
-use Rattle.std.proofs.Common.{◌≡◌, ◌<◌, ◌≤◌, ◌⊎◌, sym, ap, subst, ℕ, List, [], true, inl, inr, ⊎_elim, get_or, length, arith}
+use Rattle.std.proofs.Common.{◌≡◌, ◌<◌, ◌≤◌, ◌⊎◌, sym, ap, subst, ℕ, List, [], inl, inr, ⊎_elim, get_or, length, arith}
 use Rattle.std.proofs.lemmas.Grind.{common_steps}
-use Rattle.net_graph.specs.Graphs.{reads_in}
 use Rattle.net_graph.specs.Distances.{distance_of}
 use Rattle.net_graph.specs.Falling.{NearestAmong, EntryReads, ListReads, UnpassedEntry}
 use Rattle.net_graph.proofs.HasFacts.{has_at}
