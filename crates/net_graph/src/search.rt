@@ -79,8 +79,8 @@ fn nearest_by(
     }
 }
 
-/// The least of the nearest that a number reads, leaving out what it reads only over conditions that were passed before;
-/// `own` where nothing of these leads to the target.
+/// The least of the nearest that a number reads, leaving out what it reads only over conditions that were passed before.
+/// Where none of these leads to the target, the result has no distance.
 fn nearest_read(lists: &[Seq<u32>], own: u32, x: u32, passed: &mut [bool], distances: &[u32]) -> u32
     requires { x < length lists.now }
     ensures one { (result ≡ own) ⊎ ListReads lists.now own x result }
