@@ -1,5 +1,5 @@
 -- How large a test is, and the bounds that a test keeps.
-use Rattle.std.specs.Prelude.{ℕ, suc, ◌+◌, ◌*◌, ◌≤◌, max, List, [], ◌∷◌, map, sum, length}
+use Rattle.std.specs.Prelude.{ℕ, suc, ◌+◌, ◌≤◌, max, List, [], ◌∷◌, map, sum, length}
 use Rattle.tl_ast.specs.declared.tree.TestExpr.{TestExpr}
 use Rattle.tl_ast.specs.declared.tree.TestExpr.TheFolds.{fold-TestExpr}
 use Rattle.tl_ast.specs.declared.tree.TestExpr.TheOpen.{TestExpr-F, Num, Var, Neg, Two}

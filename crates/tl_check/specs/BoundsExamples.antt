@@ -1,11 +1,11 @@
 -- Worked examples: how large tests are.
-use Rattle.std.specs.Prelude.{ℕ, zero, suc, ◌≡◌, Some, None, List, [], ◌∷◌, codes}
+use Rattle.std.specs.Prelude.{◌≡◌, Some, None, [], ◌∷◌, codes}
 use Rattle.tb_base.specs.declared.path.Region.TheVariants.{Monitor}
 use Rattle.tl_ast.specs.declared.tree.TestExpr.TheVariants.{Num, Var, Neg, Two}
 use Rattle.tl_ast.specs.declared.tree.TestOp.TheVariants.{Add, Mul}
-use Rattle.tl_ast.specs.declared.tree.DriverKind.TheVariants.{Enqueue, EnqueueSeq, ExpectInvalid}
+use Rattle.tl_ast.specs.declared.tree.DriverKind.TheVariants.{EnqueueSeq, ExpectInvalid}
 use Rattle.tl_ast.specs.declared.tree.TestStmt.{TestStmt}
-use Rattle.tl_ast.specs.declared.tree.TestStmt.TheVariants.{Poke, Peek, Step, Let, If, While, Repeat, Fork, Driver, ResetFor}
+use Rattle.tl_ast.specs.declared.tree.TestStmt.TheVariants.{Step, If, While, Repeat, Fork, Driver, ResetFor}
 use Rattle.tl_check.specs.Bounds.{statements, driver_values, nested_blocks, nested_forks, operators, longest_expr}
 
 -- `if v { step 1; } else { repeat 2 { enqueueSeq q [1, - v]; } }`

@@ -1,8 +1,8 @@
 -- The operators of an expression that is spelled: as many as were counted, and so at most 64.
-use Rattle.std.proofs.Common.{◌≡◌, ℕ, zero, suc, ◌+◌, ◌-◌, ◌<◌, ◌≤◌, Some, refl, sym, ap, ◌∙◌, arith}
+use Rattle.std.proofs.Common.{◌≡◌, ℕ, zero, suc, ◌+◌, ◌-◌, ◌≤◌, Some, ◌∙◌, arith}
 use Rattle.text_grammar.specs.declared.item.Symbol.TheVariants as s
 use Rattle.text_grammar.specs.declared.fault.Kind.TheVariants.{TooDeep}
-use Rattle.text_grammar.specs.Part.{Part, second, both, after, either, nothing, stop}
+use Rattle.text_grammar.specs.Part.{Part, second, nothing}
 use Rattle.text_grammar.specs.Terminals.{is_symbol, is_number, mark, name, number}
 use Rattle.tl_ast.specs.declared.tree.TestExpr.{TestExpr}
 use Rattle.tl_ast.specs.declared.tree.TestExpr.TheVariants as e
@@ -103,7 +103,7 @@ module _ (inside : ℕ → Part Counted) (h : Counts inside) where
   gives_one_more n base right v r k =
       gives_both _ (Always (CountedFrom base)) second (room (Some 64) v.1) _ (gives_room 64 v.1)
       (λ m u less. gives_both Any (Always (CountedFrom base)) _ (operator n) (right (suc v.1)) (any (operator n))
-          (λ i found t. gives_to (Always (CountedFrom (suc v.1))) _ _ (λ j w q. two_counts base v w found k q) (r (suc v.1) (omega (arith, less)))))
+      (λ i found t. gives_to (Always (CountedFrom (suc v.1))) _ _ (λ j w q. two_counts base v w found k q) (r (suc v.1) (omega (arith, less)))))
 
   gives_behind : (n base : ℕ) (v : Counted) → CountedFrom base v → Gives (Always (CountedFrom base)) (behind (Some 64) inside n v)
   unfolding behind
@@ -111,8 +111,8 @@ module _ (inside : ℕ → Part Counted) (h : Counts inside) where
   gives_behind (suc n) base v k =
       gives_after (Always (CountedFrom base)) _ _ _ (gives_behind n base v k)
       (λ m w q. gives_grow (Always (CountedFrom base)) always _
-          (λ i x t. gives_one_more n base _ x (λ count le. gives_after (Always (CountedFrom count)) _ _ _ (gives_operand count le) (λ j y z. gives_behind n count y z)) t)
-          (is_operator n) 0 w q)
+      (λ i x t. gives_one_more n base _ x (λ count le. gives_after (Always (CountedFrom count)) _ _ _ (gives_operand count le) (λ j y z. gives_behind n count y z)) t)
+      (is_operator n) 0 w q)
 
   gives_level : (n : ℕ) → Counts (level (Some 64) inside n)
   unfolding level

@@ -2,3 +2,4 @@ pub mod Gives
 pub mod ExprsWritten
 pub mod RowsWritten
 pub mod BlocksWritten
+pub mod Texts
