@@ -37,7 +37,8 @@ gives_literal count h = gives_value (CountedFrom count) _ number (nothing tt) (�
 
 gives_variable : Counts variable
 unfolding variable
-gives_variable count h = gives_value (CountedFrom count) _ name (nothing tt) (λ w u. record { counted = rw (fold-Var ℕ operators_level w) (omega arith); within = h })
+gives_variable count h = gives_value (CountedFrom count) _ name (nothing tt)
+    (λ w u. record { counted = rw (fold-Var ℕ operators_level w) (omega arith); within = h })
 
 -- signs, from a count on
 record Signs (count now : ℕ) : Type 0 where
@@ -48,11 +49,13 @@ gives_minus : (count now : ℕ) → Signs count now → Gives (Always (Signs cou
 unfolding minus
 gives_minus count now h =
     gives_both _ (Always (Signs count)) second (room (Some 64) now) _ (gives_room 64 now)
-    (λ m u less. gives_value (Signs count) _ (mark s.Minus) (nothing tt) (λ a b. record { more = omega (arith, h.more); within = omega (arith, less) }))
+    (λ m u less. gives_value (Signs count) _ (mark s.Minus) (nothing tt)
+        (λ a b. record { more = omega (arith, h.more); within = omega (arith, less) }))
 
 gives_minuses : (count now : ℕ) → Signs count now → Gives (Always (Signs count)) (minuses (Some 64) now)
 unfolding minuses
-gives_minuses count now h = gives_grow (Always (Signs count)) always (minus (Some 64)) (λ m a k. gives_minus count a k) (is_symbol s.Minus) 0 now h
+gives_minuses count now h = gives_grow (Always (Signs count)) always (minus (Some 64))
+    (λ m a k. gives_minus count a k) (is_symbol s.Minus) 0 now h
 
 negated_operators : (n : ℕ) (x : TestExpr) → operators (negated n x) ≡ n + operators x
 negated_operators zero x = omega arith
@@ -70,7 +73,10 @@ module _ (inside : ℕ → Part Counted) (h : Counts inside) where
   gives_atom count le = gives_either _ is_number _ _ (gives_literal count le) (gives_plain count le)
 
   signed_counts : (count now : ℕ) (v : Counted) → count ≤ now → CountedFrom now v → CountedFrom count (negated (now - count) v.0, v.1)
-  signed_counts count now v le k = record { counted = rw (negated_operators (now - count) v.0) (omega (arith, le, k.counted)); within = k.within }
+  signed_counts count now v le k = record {
+    counted = rw (negated_operators (now - count) v.0) (omega (arith, le, k.counted));
+    within = k.within;
+  }
 
   gives_behind_signs : (count now : ℕ) → Signs count now → Gives (Always (CountedFrom count)) (behind_signs inside count now)
   unfolding behind_signs
@@ -82,7 +88,8 @@ module _ (inside : ℕ → Part Counted) (h : Counts inside) where
   unfolding signed
   gives_signed count le =
       gives_after (Always (Signs count)) _ _ _
-      (gives_after (Always (Signs count)) _ _ _ (gives_minus count count (record { more = omega arith; within = le })) (λ m now k. gives_minuses count now k))
+      (gives_after (Always (Signs count)) _ _ _ (gives_minus count count (record { more = omega arith; within = le }))
+          (λ m now k. gives_minuses count now k))
       (λ m now k. gives_behind_signs count now k)
 
   gives_other_operand : Counts (other_operand (Some 64) inside)
@@ -95,15 +102,21 @@ module _ (inside : ℕ → Part Counted) (h : Counts inside) where
 
   -- ---- operators
 
-  two_counts : (base : ℕ) (v w : Counted) (found : TestOp) → CountedFrom base v → CountedFrom (suc v.1) w → CountedFrom base (e.Two found v.0 w.0, w.1)
-  two_counts base v w found k q = record { counted = rw (fold-Two ℕ operators_level found v.0 w.0) (omega (arith, k.counted, q.counted)); within = q.within }
+  two_counts : (base : ℕ) (v w : Counted) (found : TestOp) → CountedFrom base v → CountedFrom (suc v.1) w
+      → CountedFrom base (e.Two found v.0 w.0, w.1)
+  two_counts base v w found k q = record {
+    counted = rw (fold-Two ℕ operators_level found v.0 w.0) (omega (arith, k.counted, q.counted));
+    within = q.within;
+  }
 
-  gives_one_more : (n base : ℕ) (right : ℕ → Part Counted) (v : Counted) → Counts right → CountedFrom base v → Gives (Always (CountedFrom base)) (one_more (Some 64) n right v)
+  gives_one_more : (n base : ℕ) (right : ℕ → Part Counted) (v : Counted) → Counts right → CountedFrom base v
+      → Gives (Always (CountedFrom base)) (one_more (Some 64) n right v)
   unfolding one_more
   gives_one_more n base right v r k =
       gives_both _ (Always (CountedFrom base)) second (room (Some 64) v.1) _ (gives_room 64 v.1)
       (λ m u less. gives_both Any (Always (CountedFrom base)) _ (operator n) (right (suc v.1)) (any (operator n))
-      (λ i found t. gives_to (Always (CountedFrom (suc v.1))) _ _ (λ j w q. two_counts base v w found k q) (r (suc v.1) (omega (arith, less)))))
+      (λ i found t. gives_to (Always (CountedFrom (suc v.1))) _ _
+          (λ j w q. two_counts base v w found k q) (r (suc v.1) (omega (arith, less)))))
 
   gives_behind : (n base : ℕ) (v : Counted) → CountedFrom base v → Gives (Always (CountedFrom base)) (behind (Some 64) inside n v)
   unfolding behind
@@ -111,7 +124,8 @@ module _ (inside : ℕ → Part Counted) (h : Counts inside) where
   gives_behind (suc n) base v k =
       gives_after (Always (CountedFrom base)) _ _ _ (gives_behind n base v k)
       (λ m w q. gives_grow (Always (CountedFrom base)) always _
-      (λ i x t. gives_one_more n base _ x (λ count le. gives_after (Always (CountedFrom count)) _ _ _ (gives_operand count le) (λ j y z. gives_behind n count y z)) t)
+      (λ i x t. gives_one_more n base _ x (λ count le. gives_after (Always (CountedFrom count)) _ _ _ (gives_operand count le)
+          (λ j y z. gives_behind n count y z)) t)
       (is_operator n) 0 w q)
 
   gives_level : (n : ℕ) → Counts (level (Some 64) inside n)
@@ -120,11 +134,13 @@ module _ (inside : ℕ → Part Counted) (h : Counts inside) where
 
   gives_compared : (base : ℕ) (v : Counted) → CountedFrom base v → Gives (Always (CountedFrom base)) (compared (Some 64) inside v)
   unfolding compared
-  gives_compared base v k = gives_either _ (is_operator comparison) _ _ (gives_one_more comparison base _ v (gives_level comparison) k) (gives_nothing _ v k)
+  gives_compared base v k = gives_either _ (is_operator comparison) _ _ (gives_one_more comparison base _ v (gives_level comparison) k)
+      (gives_nothing _ v k)
 
   gives_expr_behind : (base : ℕ) (v : Counted) → CountedFrom base v → Gives (Always (CountedFrom base)) (expr_behind (Some 64) inside v)
   unfolding expr_behind
-  gives_expr_behind base v k = gives_after (Always (CountedFrom base)) _ _ _ (gives_behind comparison base v k) (λ m w q. gives_compared base w q)
+  gives_expr_behind base v k = gives_after (Always (CountedFrom base)) _ _ _ (gives_behind comparison base v k)
+      (λ m w q. gives_compared base w q)
 
   gives_expr_in : Counts (expr_in (Some 64) inside)
   unfolding expr_in
@@ -135,7 +151,8 @@ unfolding parens
 gives_parens zero count le = gives_stop _ TooDeep
 gives_parens (suc depth) count le =
     gives_second (Always (CountedFrom count)) (mark s.OpenParen) _ (λ m n b x. x)
-    (gives_first (Always (CountedFrom count)) _ (mark s.CloseParen) (λ m n a x. x) (gives_expr_in (parens (Some 64) depth) (gives_parens depth) count le))
+    (gives_first (Always (CountedFrom count)) _ (mark s.CloseParen) (λ m n a x. x)
+        (gives_expr_in (parens (Some 64) depth) (gives_parens depth) count le))
 
 -- ---- the parts that statements are made of
 
@@ -144,7 +161,8 @@ short_of v h = let counted = h.counted in let within = h.within in omega (arith,
 
 gives_uncounted : (p : Part Counted) → Gives (Always (CountedFrom 0)) p → Gives (Always Short) (uncounted p)
 unfolding uncounted
-gives_uncounted p h = gives_both (Always (CountedFrom 0)) (Always Short) _ p (nothing tt) h (λ m v k. gives_to Any _ _ (λ n u t. short_of v k) (any (nothing tt)))
+gives_uncounted p h = gives_both (Always (CountedFrom 0)) (Always Short) _ p (nothing tt) h
+    (λ m v k. gives_to Any _ _ (λ n u t. short_of v k) (any (nothing tt)))
 
 pub gives_expr : Gives (Always Short) (expr expr_limits)
 unfolding expr
@@ -152,7 +170,8 @@ gives_expr = gives_uncounted _ (gives_expr_in (parens (Some 64) 32) (gives_paren
 
 pub gives_from_number : (n : ℕ) → Gives (Always (λ (v : Counted). Short v.0)) (expr_from_number expr_limits n)
 unfolding expr_from_number
-gives_from_number n = gives_to (Always (CountedFrom 0)) _ _ (λ m v k. short_of v k) (gives_expr_behind (parens (Some 64) 32) (gives_parens 32) 0 (e.Num n, 0) (counted_num 0 n (omega arith)))
+gives_from_number n = gives_to (Always (CountedFrom 0)) _ _ (λ m v k. short_of v k)
+    (gives_expr_behind (parens (Some 64) 32) (gives_parens 32) 0 (e.Num n, 0) (counted_num 0 n (omega arith)))
 
 pub gives_other_expr : Gives (Always Short) (other_expr expr_limits)
 unfolding other_expr

@@ -28,7 +28,8 @@ pub gives_to : {A : Type 0} (Q R : ℕ → A → Type 0) (p : Part A) → ((n : 
 gives_to Q R p go h = record { gives = λ ts a sp. go (length ts) a (h.gives ts a sp) }
 
 -- the items of two parts, one behind the other
-joined : {A : Type 0} (Q : ℕ → A → Type 0) (xs ys ts : List Item) (c a : A) → ts ≡ xs ++ ys → c ≡ a → Q (length xs + length ys) a → Q (length ts) c
+joined : {A : Type 0} (Q : ℕ → A → Type 0) (xs ys ts : List Item) (c a : A) → ts ≡ xs ++ ys → c ≡ a → Q (length xs + length ys) a
+    → Q (length ts) c
 joined Q xs ys ts c a e same h =
     subst (λ (n : ℕ). Q n c) (sym (ap length e ∙ length-append xs ys)) (subst (λ b. Q (length xs + length ys) b) (sym same) h)
 
@@ -64,7 +65,8 @@ unfolding stop
 gives_stop Q kind = record { gives = λ ts a sp. absurd sp }
 
 -- one item
-pub gives_one : {A : Type 0} (Q : ℕ → A → Type 0) (why : Item → Kind) (f : Item → Option A) → ((x : Item) (a : A) → f x ≡ Some a → Q 1 a) → Gives Q (one_by why f)
+pub gives_one : {A : Type 0} (Q : ℕ → A → Type 0) (why : Item → Kind) (f : Item → Option A) → ((x : Item) (a : A) → f x ≡ Some a → Q 1 a)
+    → Gives Q (one_by why f)
 unfolding one_by
 gives_one Q why f go = record { gives = λ ts a sp. subst (λ (n : ℕ). Q n a) (sym (ap length sp.1)) (go sp.0 a sp.2) }
 
@@ -77,14 +79,16 @@ module _ {A : Type 0} (Q : ℕ → A → Type 0) (R : ℕ → List A → Type 0)
   many_go : (all : List A) (ts : List Item) → SpellsMany p.spells ts all → R (length ts) all
   many_go [] ts sp = subst (λ (n : ℕ). R n []) (sym (ap length sp)) none
   many_go (a ∷ more) ts sp =
-      joined R sp.0 sp.1 ts (a ∷ more) (a ∷ more) sp.2 refl (go (length sp.0) (length sp.1) a more (h.gives sp.0 a sp.3) (many_go more sp.1 sp.4))
+      joined R sp.0 sp.1 ts (a ∷ more) (a ∷ more) sp.2 refl (go (length sp.0) (length sp.1) a more
+          (h.gives sp.0 a sp.3) (many_go more sp.1 sp.4))
 
   pub gives_many : (begins : Item → Bool) → Gives R (many begins p)
   unfolding many
   gives_many begins = record { gives = λ ts all sp. many_go all ts sp }
 
 -- a value that grows, where so many items stand in front
-module _ {A : Type 0} (Q : ℕ → A → Type 0) (may : A → Bool) (p : A → Part A) (h : (m : ℕ) (a : A) → Q m a → Gives (λ n b. Q (m + n) b) (p a)) where
+module _ {A : Type 0} (Q : ℕ → A → Type 0) (may : A → Bool) (p : A → Part A)
+    (h : (m : ℕ) (a : A) → Q m a → Gives (λ n b. Q (m + n) b) (p a)) where
   grow_go : (path : List A) (m : ℕ) (a c : A) (ts : List Item) → Q m a → Grows may (λ b. (p b).spells) a path ts c → Q (m + length ts) c
   grow_go [] m a c ts q sp =
       let none : m ≡ m + length ts = omega (arith, ap length sp.0) in
@@ -110,13 +114,16 @@ gives_room most count = by (nat_le most count) refl
 -- ---- parts of which one alone gives something
 
 -- of the first part nothing is asked
-pub gives_second : {A B : Type 0} (Q : ℕ → B → Type 0) (p : Part A) (q : Part B) → ((m n : ℕ) (b : B) → Q n b → Q (m + n) b) → Gives Q q → Gives Q (both second p q)
+pub gives_second : {A B : Type 0} (Q : ℕ → B → Type 0) (p : Part A) (q : Part B) → ((m n : ℕ) (b : B) → Q n b → Q (m + n) b) → Gives Q q
+    → Gives Q (both second p q)
 gives_second Q p q more k = gives_both Any Q second p q (any p) (λ m a u. gives_to Q _ q (λ n b x. more m n b x) k)
 
 -- nor of the second
-pub gives_first : {A B : Type 0} (Q : ℕ → A → Type 0) (p : Part A) (q : Part B) → ((m n : ℕ) (a : A) → Q m a → Q (m + n) a) → Gives Q p → Gives Q (both first p q)
+pub gives_first : {A B : Type 0} (Q : ℕ → A → Type 0) (p : Part A) (q : Part B) → ((m n : ℕ) (a : A) → Q m a → Q (m + n) a) → Gives Q p
+    → Gives Q (both first p q)
 gives_first Q p q more h = gives_both Q Q first p q h (λ m a x. gives_to Any _ q (λ n b u. more m n a x) (any q))
 
 -- whatever the parts give
-pub gives_value : {A B C : Type 0} (Q : C → Type 0) (f : A → B → C) (p : Part A) (q : Part B) → ((a : A) (b : B) → Q (f a b)) → Gives (Always Q) (both f p q)
+pub gives_value : {A B C : Type 0} (Q : C → Type 0) (f : A → B → C) (p : Part A) (q : Part B) → ((a : A) (b : B) → Q (f a b))
+    → Gives (Always Q) (both f p q)
 gives_value Q f p q go = gives_both Any (Always Q) f p q (any p) (λ m a u. gives_to Any _ q (λ n b v. go a b) (any q))

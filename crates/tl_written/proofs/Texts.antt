@@ -13,7 +13,12 @@ unfolding spells_test
 spelled_written text x sp =
     let h = test_fits (items_of text) x sp in
     let size = h.size in let blocks = h.blocks in let forks = h.forks in
-    record { blocks = omega (arith, blocks); forks = omega (arith, forks); operators = h.short; size = omega (arith, size, items_count text) }
+    record {
+      blocks = omega (arith, blocks);
+      forks = omega (arith, forks);
+      operators = h.short;
+      size = omega (arith, size, items_count text);
+    }
 
 pub spelled_bounded : (text : List ℕ) (x : TestText) → length text ≤ text_limit → spells_test text x → TestBounds x
 spelled_bounded text x short sp =
