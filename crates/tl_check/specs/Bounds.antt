@@ -96,15 +96,15 @@ longest_expr = fold-TestStmt ℕ longest_level
 
 -- ---- the bounds
 
--- What a test keeps that a text of at most 262,144 bytes spells: each statement takes a byte at least, and so does each value of a driver.
+-- What a test keeps that a text of at most 262,144 bytes spells: each statement and each value of a driver takes a byte at least.
 pub record TestBounds (test : TestText) : Type 0 where
   pub blocks : greatest (map nested_blocks test.body) ≤ 32
   pub forks : greatest (map nested_forks test.body) ≤ 8
   pub operators : greatest (map longest_expr test.body) ≤ 64
   pub size : sum (map statements test.body) + sum (map driver_values test.body) ≤ 262144
 
--- What a test keeps whose drivers have become statements. A driver adds three blocks at most, and at most ten statements for itself and each
--- of its values.
+-- What a test keeps whose drivers have become statements: a driver adds at most three blocks, and at most ten statements for itself and
+-- for each of its values.
 pub record CoreBounds (test : TestText) : Type 0 where
   pub blocks : greatest (map nested_blocks test.body) ≤ 35
   pub forks : greatest (map nested_forks test.body) ≤ 8

@@ -1,6 +1,7 @@
 -- Worked examples: how large tests are.
 use Rattle.std.specs.Prelude.{◌≡◌, Some, None, [], ◌∷◌, codes}
 use Rattle.tb_base.specs.declared.path.Region.TheVariants.{Monitor}
+use Rattle.tl_ast.specs.declared.tree.TestExpr.{TestExpr}
 use Rattle.tl_ast.specs.declared.tree.TestExpr.TheVariants.{Num, Var, Neg, Two}
 use Rattle.tl_ast.specs.declared.tree.TestOp.TheVariants.{Add, Mul}
 use Rattle.tl_ast.specs.declared.tree.DriverKind.TheVariants.{EnqueueSeq, ExpectInvalid}
@@ -8,13 +9,20 @@ use Rattle.tl_ast.specs.declared.tree.TestStmt.{TestStmt}
 use Rattle.tl_ast.specs.declared.tree.TestStmt.TheVariants.{Step, If, While, Repeat, Fork, Driver, ResetFor}
 use Rattle.tl_check.specs.Bounds.{statements, driver_values, nested_blocks, nested_forks, operators, longest_expr}
 
+abbrev pub v : TestExpr
+v = Var (codes "v")
+
 -- `if v { step 1; } else { repeat 2 { enqueueSeq q [1, - v]; } }`
 abbrev pub branches : TestStmt
-branches = If 1 (Var (codes "v")) (Step 2 1 ∷ []) (Repeat 3 (Num 2) (Driver 4 EnqueueSeq (codes "q") (Num 1 ∷ Neg (Var (codes "v")) ∷ []) ∷ []) ∷ [])
+branches = If 1 v (Step 2 1 ∷ []) (Repeat 3 (Num 2) (Driver 4 EnqueueSeq (codes "q") (Num 1 ∷ Neg v ∷ []) ∷ []) ∷ [])
+
+-- `while 1 + 2 * v { expectInvalid q; }`
+abbrev pub watches : TestStmt
+watches = While 3 (Two Add (Num 1) (Two Mul (Num 2) v)) (Driver 4 ExpectInvalid (codes "q") [] ∷ [])
 
 -- `fork h { fork monitor g { } while 1 + 2 * v { expectInvalid q; } }`
 abbrev pub forks : TestStmt
-forks = Fork 1 None (codes "h") (Fork 2 (Some Monitor) (codes "g") [] ∷ While 3 (Two Add (Num 1) (Two Mul (Num 2) (Var (codes "v")))) (Driver 4 ExpectInvalid (codes "q") [] ∷ []) ∷ [])
+forks = Fork 1 None (codes "h") (Fork 2 (Some Monitor) (codes "g") [] ∷ watches ∷ [])
 
 pub record BoundsExamples : Type 0 where
   pub statements_of_branches : statements branches ≡ 4

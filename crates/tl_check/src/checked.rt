@@ -18,7 +18,7 @@ use std::marker::Model;
 use tb_base::{Memory, Region};
 use tl_ast::TestText;
 
-/// A test that breaks no rule for some ports and keeps the bounds of a written test, and a copy of these ports. Contracts see both.
+/// A test that breaks no rule for some ports and keeps the bounds, with a copy of these ports. Contracts see both.
 #[derive(Drop)]
 pub struct CheckedTest {
     test: TestText,
@@ -90,8 +90,9 @@ fn keeps_rules(alloc: Global, test: &TestText, ports: &PortTable) -> Result<(), 
     Ok(())
 }
 
-/// Checks a test, which keeps the bounds of a written one, against the rules for these ports. The answer has copies of both; or it tells of the
-/// first statement in text order that breaks a rule, with the first rule that this statement breaks.
+/// Checks a test against the rules for these ports. It keeps the bounds, as each test does that a text of at most 262,144 bytes spells.
+/// The answer has copies of both; or it tells of the first statement in text order that breaks a rule, with the first rule that this
+/// statement breaks.
 /// `TestFault::Memory` says that there wasn't enough memory. The time is linear in the size of the test,
 /// but that a statement is looked at once more for each handle, of at most 64, in whose scope it stands.
 pub fn check_test(

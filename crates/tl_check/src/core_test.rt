@@ -13,8 +13,8 @@ use std::marker::Model;
 use tb_base::Memory;
 use tl_ast::TestText;
 
-/// A test without drivers and resets that breaks no rule for some ports and keeps the bounds of a core test, and a copy of these ports.
-/// Contracts see both.
+/// A test without drivers and resets that breaks no rule for some ports and keeps the bounds, with a copy of these ports. Contracts see
+/// both.
 #[derive(Drop)]
 pub struct CoreTest {
     test: TestText,

@@ -114,14 +114,14 @@ module _ (b f l : ℕ) where
         (λ m c q. gives_both (BodyFits 0 b f) (λ n x. Row b f (m + n) (stmt.If l c x.0 x.1)) pair block (else_block block) h
         (λ j taken r. let some = r.blocks in
         gives_to (BodyFits 0 b f) _ _ (λ k other t. fits_if (m + (j + k)) j k c taken other (omega arith) q r t)
-            (gives_else (omega (arith, some)))))
+        (gives_else (omega (arith, some)))))
 
   module _ (inner : Body) (h : Gives (BodyFits 1 b f) inner) where
     gives_forked : (m : ℕ) (region : Option Region) (handle : List ℕ) → Gives (λ n x. Row b f (m + n) x) (forked inner l region handle)
     unfolding forked
     gives_forked m region handle = gives_both (BodyFits 1 b f) (λ n x. Row b f (m + n) x) _ inner (nothing tt) h
         (λ k body q. gives_to Any _ (nothing tt) (λ n (u t : Unit {0}). fits_fork (m + (k + n)) k region handle body (omega arith) q)
-            (any (nothing tt)))
+        (any (nothing tt)))
 
     gives_fork_in : (m : ℕ) (region : Option Region) (handle : List ℕ) → Gives (λ n x. Row b f (m + n) x) (fork_in inner l region handle)
     unfolding fork_in
@@ -129,7 +129,7 @@ module _ (b f l : ℕ) where
     gives_fork_in m (Some region) handle = gives_either _ is_name _ _
         (gives_after Any (λ n x. Row b f (m + n) x) name _ (any name)
         (λ k w u. gives_to (λ n x. Row b f (k + n) x) _ _ (λ n x q. fits_more b f (suc (k + n)) (suc (m + (k + n))) x (omega arith) q)
-            (gives_forked k (Some region) w)))
+        (gives_forked k (Some region) w)))
         (gives_forked m None handle)
 
     gives_fork : Gives (Row b f) (fork_row inner l)
@@ -195,7 +195,7 @@ module _ (b : ℕ) (block : ℕ → Body) (h : (f : ℕ) → Gives (BodyFits 0 b
   unfolding stmt_in
   gives_stmt f = gives_after (Begun f) (Fits b f) (first_word f) _ (gives_first_word f)
       (λ m a q. let one = q.items in gives_to (Row b f) _ _ (λ n x r. fits_more b f (suc n) (m + n) x (omega (arith, one)) r)
-          (gives_row b f a.0 (block f) _ (h f) (gives_fork_block f) a.1 q.some))
+      (gives_row b f a.0 (block f) _ (h f) (gives_fork_block f) a.1 q.some))
 
   gives_stmts : (f : ℕ) → Gives (BodyFits 0 (suc b) f) (stmts_in expr_limits block f)
   unfolding stmts_in

@@ -50,7 +50,7 @@ unfolding minus
 gives_minus count now h =
     gives_both _ (Always (Signs count)) second (room (Some 64) now) _ (gives_room 64 now)
     (λ m u less. gives_value (Signs count) _ (mark s.Minus) (nothing tt)
-        (λ a b. record { more = omega (arith, h.more); within = omega (arith, less) }))
+    (λ a b. record { more = omega (arith, h.more); within = omega (arith, less) }))
 
 gives_minuses : (count now : ℕ) → Signs count now → Gives (Always (Signs count)) (minuses (Some 64) now)
 unfolding minuses
@@ -89,7 +89,7 @@ module _ (inside : ℕ → Part Counted) (h : Counts inside) where
   gives_signed count le =
       gives_after (Always (Signs count)) _ _ _
       (gives_after (Always (Signs count)) _ _ _ (gives_minus count count (record { more = omega arith; within = le }))
-          (λ m now k. gives_minuses count now k))
+      (λ m now k. gives_minuses count now k))
       (λ m now k. gives_behind_signs count now k)
 
   gives_other_operand : Counts (other_operand (Some 64) inside)
@@ -116,7 +116,7 @@ module _ (inside : ℕ → Part Counted) (h : Counts inside) where
       gives_both _ (Always (CountedFrom base)) second (room (Some 64) v.1) _ (gives_room 64 v.1)
       (λ m u less. gives_both Any (Always (CountedFrom base)) _ (operator n) (right (suc v.1)) (any (operator n))
       (λ i found t. gives_to (Always (CountedFrom (suc v.1))) _ _
-          (λ j w q. two_counts base v w found k q) (r (suc v.1) (omega (arith, less)))))
+      (λ j w q. two_counts base v w found k q) (r (suc v.1) (omega (arith, less)))))
 
   gives_behind : (n base : ℕ) (v : Counted) → CountedFrom base v → Gives (Always (CountedFrom base)) (behind (Some 64) inside n v)
   unfolding behind
@@ -125,7 +125,7 @@ module _ (inside : ℕ → Part Counted) (h : Counts inside) where
       gives_after (Always (CountedFrom base)) _ _ _ (gives_behind n base v k)
       (λ m w q. gives_grow (Always (CountedFrom base)) always _
       (λ i x t. gives_one_more n base _ x (λ count le. gives_after (Always (CountedFrom count)) _ _ _ (gives_operand count le)
-          (λ j y z. gives_behind n count y z)) t)
+      (λ j y z. gives_behind n count y z)) t)
       (is_operator n) 0 w q)
 
   gives_level : (n : ℕ) → Counts (level (Some 64) inside n)
@@ -152,7 +152,7 @@ gives_parens zero count le = gives_stop _ TooDeep
 gives_parens (suc depth) count le =
     gives_second (Always (CountedFrom count)) (mark s.OpenParen) _ (λ m n b x. x)
     (gives_first (Always (CountedFrom count)) _ (mark s.CloseParen) (λ m n a x. x)
-        (gives_expr_in (parens (Some 64) depth) (gives_parens depth) count le))
+    (gives_expr_in (parens (Some 64) depth) (gives_parens depth) count le))
 
 -- ---- the parts that statements are made of
 

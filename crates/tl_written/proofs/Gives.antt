@@ -80,7 +80,7 @@ module _ {A : Type 0} (Q : ℕ → A → Type 0) (R : ℕ → List A → Type 0)
   many_go [] ts sp = subst (λ (n : ℕ). R n []) (sym (ap length sp)) none
   many_go (a ∷ more) ts sp =
       joined R sp.0 sp.1 ts (a ∷ more) (a ∷ more) sp.2 refl (go (length sp.0) (length sp.1) a more
-          (h.gives sp.0 a sp.3) (many_go more sp.1 sp.4))
+      (h.gives sp.0 a sp.3) (many_go more sp.1 sp.4))
 
   pub gives_many : (begins : Item → Bool) → Gives R (many begins p)
   unfolding many

@@ -230,7 +230,7 @@ gives_values : (p : List ℕ) → Gives FewOf (values expr_limits p)
 unfolding values
 gives_values p = gives_either FewOf (is_symbol s.CloseBracket) _ _ (gives_no_values p)
     (gives_either FewOf is_number _ _ (gives_after Any FewOf number _ (any number)
-        (λ m n u. gives_to FewOf _ _ (λ i v k. few_wider i (m + i) v.values (omega arith) k) (gives_numbered p n)))
+    (λ m n u. gives_to FewOf _ _ (λ i v k. few_wider i (m + i) v.values (omega arith) k) (gives_numbered p n)))
     (gives_other p))
 
 gives_bracket : (p : List ℕ) → Gives FewOf (bracket expr_limits p)
@@ -254,7 +254,7 @@ gives_listed : Gives FewOf (listed expr_limits)
 unfolding listed
 gives_listed = gives_after FewOf FewOf _ _
     (gives_after Any FewOf name _ (any name) (λ m w u. gives_to FewOf _ _ (λ n v k. few_wider n (m + n) v.values (omega arith) k)
-        (gives_listed_from w)))
+    (gives_listed_from w)))
     (λ m v h. gives_listed_behind m v h)
 
 -- ---- drivers
@@ -264,7 +264,7 @@ module _ (b f l : ℕ) (one : 1 ≤ f) where
   unfolding list_driver
   gives_list_driver k = gives_both FewOf (Row b f) _ (listed expr_limits) _ gives_listed
       (λ m v h. gives_to Any _ _ (λ n u x. fits_driver b f (m + n) l k v.name v.values one (few_wider m (m + n) v.values (omega arith) h))
-          (any (mark s.Semicolon)))
+      (any (mark s.Semicolon)))
 
   gives_bare_driver : (k : DriverKind) → Gives (Row b f) (bare_driver l k)
   unfolding bare_driver

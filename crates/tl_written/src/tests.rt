@@ -40,6 +40,9 @@ fn a_text_is_read_and_checked(rt: HostRuntime) -> Result<(), Fail> {
     let ports = table(rt.alloc())?;
     let checked = checked_test(rt.alloc(), b"repeat 2 { poke a = 1 ; }", &ports).ok_or("refused")?;
     let printed = print_test(rt.alloc(), checked.test()).ok().ok_or("memory")?;
-    assert_eq!(rt; printed.as_slice(), b"repeat 2 {\n  poke a = 1;\n}\n".as_slice());
+    assert_eq!(rt;
+        printed.as_slice(),
+        b"repeat 2 {\n  poke a = 1;\n}\n".as_slice()
+    );
     Ok(())
 }
