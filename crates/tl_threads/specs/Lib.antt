@@ -1,0 +1,5 @@
+pub mod Values
+pub mod Bodies
+pub mod Threads
+pub mod Code
+pub mod Machine
