@@ -3,3 +3,4 @@ pub mod Bodies
 pub mod Threads
 pub mod Code
 pub mod Machine
+pub mod Stands
