@@ -3,3 +3,4 @@ pub mod Operands
 pub mod Layouts
 pub mod Refines
 pub mod Runs
+pub mod Pieces

@@ -52,7 +52,7 @@ run_more f limit zero m used s d le e = absurd (cc)
 run_more f limit (suc n) zero used s d le e = absurd (omega arith)
 run_more f limit (suc n) (suc m) used s d le e =
     step_more (nat_le limit used) (λ t. run f limit n used t) (λ t. run f limit n (suc used) t) (λ t. run f limit m used t) (λ t. run f limit m (suc used) t)
-      (λ t d. run_more f limit n m used t d (omega arith)) (λ t d. run_more f limit n m (suc used) t d (omega arith)) s (f s.pc) d e
+    (λ t d. run_more f limit n m used t d (omega arith)) (λ t d. run_more f limit n m (suc used) t d (omega arith)) s (f s.pc) d e
 
 -- THE MACHINE GIVES ONE ACTION
 pub one_action : (f : Code) (limit n m used : ℕ) (s : Core) (d e : Did) → run f limit n used s ≡ Some d → run f limit m used s ≡ Some e → d ≡ e

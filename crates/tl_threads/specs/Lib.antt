@@ -5,3 +5,4 @@ pub mod Code
 pub mod Machine
 pub mod Stands
 pub mod Laws
+pub mod Examples
