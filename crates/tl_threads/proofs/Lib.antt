@@ -4,3 +4,4 @@ pub mod Layouts
 pub mod Refines
 pub mod Runs
 pub mod Pieces
+pub mod Fitting

@@ -6,3 +6,4 @@ pub mod Machine
 pub mod Stands
 pub mod Laws
 pub mod Examples
+pub mod Fits

@@ -1,5 +1,6 @@
 //! Laws of threads and of code. Each function has no body: its contract is the law.
 ghost use Rattle.tl_threads.specs.Laws.{OperandsAreValues, OneAction, CodeRefines};
+ghost use Rattle.tl_threads.specs.Fits.{StandsFits, FitsStands, RootStands};
 
 /// The number of an expression's postfix form is the number of the expression, where its variables are known and the slots have their
 /// numbers.
@@ -16,4 +17,20 @@ pub fn code_gives_one_action()
 /// move from there, and stands for the thread behind it.
 pub fn code_does_the_next_move()
     ensures { CodeRefines }
+{}
+
+/// Where a place with its slots and counts stands for a thread, it fits the place: depth and region are the thread's, each handle that is
+/// known there names a child, and a count is kept for each `repeat` that is open there.
+pub fn what_stands_fits()
+    ensures { StandsFits }
+{}
+
+/// Each place of a test's code, with slots and counts that fit it, stands for a thread.
+pub fn what_fits_stands()
+    ensures { FitsStands }
+{}
+
+/// The beginning of a test's code stands for the root thread.
+pub fn the_beginning_stands_for_the_root()
+    ensures { RootStands }
 {}
