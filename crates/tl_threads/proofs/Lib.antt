@@ -5,3 +5,4 @@ pub mod Refines
 pub mod Runs
 pub mod Pieces
 pub mod Fitting
+pub mod Allowing

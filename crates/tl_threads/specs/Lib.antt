@@ -7,3 +7,4 @@ pub mod Stands
 pub mod Laws
 pub mod Examples
 pub mod Fits
+pub mod Allowed
