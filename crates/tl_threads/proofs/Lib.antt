@@ -6,3 +6,4 @@ pub mod Runs
 pub mod Pieces
 pub mod Fitting
 pub mod Allowing
+pub mod Checking

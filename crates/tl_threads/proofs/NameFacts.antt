@@ -145,6 +145,13 @@ with_back xs n m k ne e = grown_back xs n m k (slot_found n xs) ne e
 pub with_slot : (xs : List Name) (n : Name) (v : ℕ) → length (with_name xs n) ≤ v → slot n (with_name xs n) < v
 with_slot xs n v le = let b = find_below n (with_name xs n) (slot n (with_name xs n)) (with_known xs n) in omega arith
 
+pub with_length : (xs : List Name) (n : Name) → length xs ≤ length (with_name xs n)
+with_length xs n = go (slot_found n xs)
+  where
+    go : (o : Option ℕ) → length xs ≤ length (grown xs n o)
+    go None = omega (arith, length-append xs (n ∷ []))
+    go (Some k) = omega arith
+
 pub known_slot : (xs : List Name) (n : Name) → Known xs n → slot_found n xs ≡ Some (slot n xs)
 known_slot xs n (k, e) = e ∙ ap (λ o. Some (unwrap_or o 0)) (sym e)
 
