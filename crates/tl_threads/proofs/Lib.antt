@@ -7,3 +7,4 @@ pub mod Pieces
 pub mod Fitting
 pub mod Allowing
 pub mod Checking
+pub mod Ruling
