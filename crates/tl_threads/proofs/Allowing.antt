@@ -71,6 +71,7 @@ names_with n w hs = ap (λ b. names_of (cond b hs (hs ++ (n, w) ∷ []))) (handl
     behind : (xs : Handles) → names_of (xs ++ (n, w) ∷ []) ≡ names_of xs ++ n ∷ []
     behind [] = refl
     behind (x ∷ xs) = ap (λ t. x.0 ∷ t) (behind xs)
+
     go : (o : Option ℕ) → names_of (cond (is_some o) hs (hs ++ (n, w) ∷ [])) ≡ grown (names_of hs) n o
     go None = behind hs
     go (Some k) = refl
@@ -93,4 +94,4 @@ level_known vars (E.Two op a b) h = let p = or_parts (uses_unknown vars a.0) (us
 pub expr_known : (vars : List Name) (e : TestExpr) → uses_unknown vars e ≡ false → KnownIn vars (expr_of e)
 expr_known vars = ind-TestExpr (KnownThere vars) (λ x y is. subst (λ z. KnownThere vars (roll-TestExpr z)) is (λ h.
     subst (λ z. KnownIn vars z) (sym (fold-roll-TestExpr Expr level_expr (map-TestExpr (WithKnown vars) TestExpr (λ e. e.0) y)))
-      (level_known vars y (sym (fold-roll-TestExpr Bool (unknown_level vars) (map-TestExpr (WithKnown vars) TestExpr (λ e. e.0) y)) ∙ h))))
+    (level_known vars y (sym (fold-roll-TestExpr Bool (unknown_level vars) (map-TestExpr (WithKnown vars) TestExpr (λ e. e.0) y)) ∙ h))))

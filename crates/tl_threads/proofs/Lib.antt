@@ -8,3 +8,4 @@ pub mod Fitting
 pub mod Allowing
 pub mod Checking
 pub mod Ruling
+pub mod Regions

@@ -123,7 +123,15 @@ named_last x w (h ∷ hs) e = go (bytes_eq x h.0) e (named_last x w hs)
     go true i f = absurd (cc)
     go false i f = f i
 
-named_behind : (y x : Name) (w b : Bool) (hs : Handles) → handle_named y (hs ++ (x, w) ∷ []) ≡ Some b → (handle_named y hs ≡ Some b) ⊎ ((y ≡ x) × (w ≡ b))
+pub named_before : (y x : Name) (w b : Bool) (hs : Handles) → handle_named y hs ≡ Some b → handle_named y (hs ++ (x, w) ∷ []) ≡ Some b
+named_before y x w b [] e = absurd (let i : None ≡ Some b = e in cc)
+named_before y x w b (h ∷ hs) e = go (bytes_eq y h.0) e (named_before y x w b hs)
+  where
+    go : (c : Bool) → cond c (Some h.1) (handle_named y hs) ≡ Some b → (handle_named y hs ≡ Some b → handle_named y (hs ++ (x, w) ∷ []) ≡ Some b) → cond c (Some h.1) (handle_named y (hs ++ (x, w) ∷ [])) ≡ Some b
+    go true i f = i
+    go false i f = f i
+
+pub named_behind : (y x : Name) (w b : Bool) (hs : Handles) → handle_named y (hs ++ (x, w) ∷ []) ≡ Some b → (handle_named y hs ≡ Some b) ⊎ ((y ≡ x) × (w ≡ b))
 named_behind y x w b [] e = go (bytes_eq y x) refl e
   where
     go : (c : Bool) → bytes_eq y x ≡ c → cond c (Some w) None ≡ Some b → (None ≡ Some b) ⊎ ((y ≡ x) × (w ≡ b))
@@ -168,3 +176,132 @@ may_join x hs g e j =
     up : (g : Region) (b : Bool) → (not (is_monitor g) && b) ≡ false → b ≡ true → is_monitor g ≡ true
     up Monitor b i w = refl
     up Main b i w = absurd (let z : true ≡ false = sym w ∙ i in cc)
+
+-- ---- statements
+
+module _ (ports : Ports) where
+  -- where a part ends well and what gives handles is covered, what gives the others is covered behind it, and its piece is allowed in
+  -- front of what is allowed behind it
+  Allows : Part → Piece → Type 0
+  Allows p q = (g : Region) (rest : Name → Bool) (n m : KnownNames) → p.goes_on ports g rest n ≡ Ok m → Covers n.handles (p.gives g) → Covers n.handles rest
+      → Covers m.handles rest × ((k : Body) → Allowed g m k → Allowed g n (q g k))
+
+  abbrev StmtAllows : TestStmt → Type 0
+  StmtAllows s = Allows (part s) (piece ports s)
+
+  abbrev With : Type 0
+  With = (s : TestStmt) × StmtAllows s
+
+  abbrev stmts_of : List With → List TestStmt
+  stmts_of ts = map (λ t. t.0) ts
+
+  -- one statement in front of others
+  turn_step : (p : Part) (q : Piece) (ps : List Part) (qs : List Piece) (g : Region) (n m : KnownNames) (k : Body) → Allows p q
+      → ((i : KnownNames) → in_turn ps ports g i ≡ Ok m → Covers i.handles (some_gives ps g) → Allowed g i (chain qs g k))
+      → in_turn (p ∷ ps) ports g n ≡ Ok m → Covers n.handles (some_gives (p ∷ ps) g) → Allowed g n (chain (q ∷ qs) g k)
+  unfolding Allows
+  turn_step p q ps qs g n m k allows others e c =
+      let t = after_ok (in_turn ps ports g) m (p.goes_on ports g (some_gives ps g) n) e in
+      let r = allows g (some_gives ps g) n t.0 t.1 (covers_left n.handles (p.gives g) (some_gives ps g) c) (covers_right n.handles (p.gives g) (some_gives ps g) c) in
+      r.1 (chain qs g k) (others t.0 t.2 r.0)
+
+  turns_allowed : (ts : List With) (g : Region) (n m : KnownNames) (k : Body) → Allowed g m k → in_turn (map part (stmts_of ts)) ports g n ≡ Ok m → Covers n.handles (some_gives (map part (stmts_of ts)) g)
+      → Allowed g n (chain (map (piece ports) (stmts_of ts)) g k)
+  turns_allowed [] g n m k a e c = subst (λ z. Allowed g z k) (sym (ok_same n m e)) a
+  turns_allowed (t ∷ ts) g n m k a e c =
+      turn_step (part t.0) (piece ports t.0) (map part (stmts_of ts)) (map (piece ports) (stmts_of ts)) g n m k t.1 (λ i e c. turns_allowed ts g i m k a e c) e c
+
+  -- a block
+  block_allowed : (ts : List With) (g : Region) (n i : KnownNames) → in_turn (map part (stmts_of ts)) ports g n ≡ Ok i → Covers n.handles (some_gives (map part (stmts_of ts)) g)
+      → Allowed g n (chain (map (piece ports) (stmts_of ts)) g nil)
+  block_allowed ts g n i e c = turns_allowed ts g n i nil tt e c
+
+  abbrev parts_at : TestStmt-F With → TestStmt-F Part
+  parts_at y = map-TestStmt TestStmt Part part (map-TestStmt With TestStmt (λ t. t.0) y)
+
+  abbrev pieces_at : TestStmt-F With → TestStmt-F Piece
+  pieces_at y = map-TestStmt TestStmt Piece (piece ports) (map-TestStmt With TestStmt (λ t. t.0) y)
+
+  -- a statement that leaves the names as they are
+  stays : (g : Region) (rest : Name → Bool) (n m : KnownNames) (y : TestStmt-F With) → ((k : Body) → Allowed g n k → Allowed g n (level_piece ports (pieces_at y) g k)) → n ≡ m → Covers n.handles rest
+      → Covers m.handles rest × ((k : Body) → Allowed g m k → Allowed g n (level_piece ports (pieces_at y) g k))
+  stays g rest n m y f e c = (subst (λ (z : KnownNames). Covers z.handles rest) e c, λ k a. f k (subst (λ z. Allowed g z k) (sym e) a))
+
+  -- at each variant: what the rules say, and the rest of the outcome
+  abbrev Judged : Region → (Name → Bool) → KnownNames → KnownNames → TestStmt-F Part → Type 0
+  Judged g rest n m x = Unbroken Part (here ports g n) x × (behind x ports g rest n ≡ Ok m)
+
+  judged : (g : Region) (rest : Name → Bool) (n m : KnownNames) (x : TestStmt-F Part) → (part_level x).goes_on ports g rest n ≡ Ok m → Judged g rest n m x
+  judged g rest n m x e = let u = passes (first_broken (here ports g n) x) (line_of x) (behind x ports g rest n) m e in (unbroken Part (here ports g n) x u.0, u.1)
+
+  level_allows : (y : TestStmt-F With) (g : Region) (rest : Name → Bool) (n m : KnownNames) → Judged g rest n m (parts_at y) → Covers n.handles (gives_level (parts_at y) g) → Covers n.handles rest
+      → Covers m.handles rest × ((k : Body) → Allowed g m k → Allowed g n (level_piece ports (pieces_at y) g k))
+  level_allows (S.Poke l p e) g rest n m j c d = stays g rest n m (S.Poke l p e) (λ k a. (used n.variables e None j.0.variable, a)) (ok_same n m j.1) d
+  level_allows (S.Peek l p into) g rest n m j c d = stays g rest n m (S.Peek l p into) (λ k a. (into_known n.variables into j.0.variable, a)) (ok_same n m j.1) d
+  level_allows (S.Expect l p e) g rest n m j c d = stays g rest n m (S.Expect l p e) (λ k a. (used n.variables e None j.0.variable, a)) (ok_same n m j.1) d
+  level_allows (S.Step l count) g rest n m j c d = stays g rest n m (S.Step l count) (λ k a. a) (ok_same n m j.1) d
+  level_allows (S.Let l x e) g rest n m j c d =
+      let same = ok_same (behind_let x n) m j.1 in
+      (subst (λ (z : KnownNames). Covers z.handles rest) same d, λ k a. (used n.variables e None j.0.variable, subst (λ z. Allowed g z k) (sym same) a))
+  level_allows (S.Set l x e) g rest n m j c d =
+      let there : is_among x n.variables ≡ true = not_false (is_among x n.variables) (or_parts (list_any (uses_unknown n.variables) (e ∷ [])) (sets_unknown n.variables (Some x)) j.0.variable).1 in
+      stays g rest n m (S.Set l x e) (λ k a. (used n.variables e (Some x) j.0.variable, subst (λ z. Allowed g z k) (sym (let_there x n there)) a)) (ok_same n m j.1) d
+  level_allows (S.If l e ts os) g rest n m j c d =
+      let f = after_ok (in_block (map part (stmts_of os)) ports g) m (in_block (map part (stmts_of ts)) ports g n) j.1 in
+      let t = left_ok n f.0 (in_turn (map part (stmts_of ts)) ports g n) f.1 in
+      let o = left_ok n m (in_turn (map part (stmts_of os)) ports g n) (ap (in_block (map part (stmts_of os)) ports g) t.2 ∙ f.2) in
+      stays g rest n m (S.If l e ts os)
+      (λ k a. (
+        used n.variables e None j.0.variable,
+        block_allowed ts g n t.0 t.1 (covers_left n.handles (some_gives (map part (stmts_of ts)) g) (some_gives (map part (stmts_of os)) g) c),
+        block_allowed os g n o.0 o.1 (covers_right n.handles (some_gives (map part (stmts_of ts)) g) (some_gives (map part (stmts_of os)) g) c),
+        a,
+      ))
+      o.2 d
+  level_allows (S.While l e ts) g rest n m j c d =
+      let t = left_ok n m (in_turn (map part (stmts_of ts)) ports g n) j.1 in
+      stays g rest n m (S.While l e ts) (λ k a. (used n.variables e None j.0.variable, block_allowed ts g n t.0 t.1 c, a)) t.2 d
+  level_allows (S.Repeat l e ts) g rest n m j c d =
+      let t = left_ok n m (in_turn (map part (stmts_of ts)) ports g n) j.1 in
+      stays g rest n m (S.Repeat l e ts) (λ k a. (used n.variables e None j.0.variable, block_allowed ts g n t.0 t.1 c, a)) t.2 d
+  level_allows (S.Fork l written x ts) g rest n m j c d =
+      let r : Region = child_region g written in
+      let w : Bool = is_monitor r || rest x in
+      let t = left_ok (behind_fork x w n) m (in_turn (map part (stmts_of ts)) ports r (inside_fork n)) j.1 in (
+        subst (λ (z : KnownNames). Covers z.handles rest) t.2 (covers_fork n.handles x w rest (or_right (is_monitor r) (rest x)) d),
+        λ k a. (
+          w,
+          forks_up g written j.0.fork,
+          block_allowed ts r (inside_fork n) t.0 t.1 (covers_none (some_gives (map part (stmts_of ts)) r)),
+          taken_by n.handles x w r (λ y. is_monitor r && bytes_eq y x) (λ h. ap₂ (λ a b. a && b) h (name_self x)) (or_left (is_monitor r) (rest x)) c,
+          subst (λ z. Allowed g z k) (sym t.2) a,
+        ),
+      )
+  level_allows (S.Join l x) g rest n m j c d = stays g rest n m (S.Join l x) (λ k a. (may_join x n.handles g j.0.handle j.0.join, a)) (ok_same n m j.1) d
+  level_allows (S.JoinStep l x) g rest n m j c d = stays g rest n m (S.JoinStep l x) (λ k a. (handle_there x n.handles j.0.handle, a)) (ok_same n m j.1) d
+  level_allows (S.Driver l kind p values) g rest n m j c d = stays g rest n m (S.Driver l kind p values) (λ k a. a) (ok_same n m j.1) d
+  level_allows (S.ResetFor l count) g rest n m j c d = stays g rest n m (S.ResetFor l count) (λ k a. a) (ok_same n m j.1) d
+
+  stmt_allows : (s : TestStmt) → StmtAllows s
+  unfolding Allows
+  stmt_allows = ind-TestStmt StmtAllows (λ x y is. subst (λ z. StmtAllows (roll-TestStmt z)) is (λ g rest n m e c d.
+      let p : part (roll-TestStmt (map-TestStmt With TestStmt (λ t. t.0) y)) ≡ part_level (parts_at y) = fold-roll-TestStmt Part part_level (map-TestStmt With TestStmt (λ t. t.0) y) in
+      let q : piece ports (roll-TestStmt (map-TestStmt With TestStmt (λ t. t.0) y)) ≡ level_piece ports (pieces_at y) = fold-roll-TestStmt Piece (level_piece ports) (map-TestStmt With TestStmt (λ t. t.0) y) in
+      let r = level_allows y g rest n m (judged g rest n m (parts_at y) (sym (ap (λ z. z.goes_on ports g rest n) p) ∙ e)) (subst (λ z. Covers n.handles (z.gives g)) p c) d in
+      (r.0, λ k a. subst (λ z. Allowed g n (z g k)) (sym q) (r.1 k a))))
+
+  with_all : (ss : List TestStmt) → (ts : List With) × (stmts_of ts ≡ ss)
+  with_all [] = ([], refl)
+  with_all (s ∷ ss) = let r = with_all ss in ((s, stmt_allows s) ∷ r.0, ap (λ t. s ∷ t) r.1)
+
+  ok_of : (o : Outcome) → broken_in o ≡ None → (m : KnownNames) × (o ≡ Ok m)
+  ok_of (Ok m) e = (m, refl)
+  ok_of (Err x) e = absurd (cc)
+
+  -- A TEST THAT KEEPS THE RULES has an allowed body
+  pub rules_allow : (test : TestText) → test_rule test ports ≡ None → Allowed Main nothing_known (test_body ports test)
+  rules_allow test e =
+      let o = ok_of (in_turn (map part test.body) ports Main nothing_known) e in
+      let r = with_all test.body in
+      subst (λ ss. Allowed Main nothing_known (chain (map (piece ports) ss) Main nil)) r.1
+      (block_allowed r.0 Main nothing_known o.0 (ap (λ ss. in_turn (map part ss) ports Main nothing_known) r.1 ∙ o.1) (covers_none (some_gives (map part (stmts_of r.0)) Main)))

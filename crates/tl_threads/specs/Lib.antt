@@ -8,3 +8,4 @@ pub mod Laws
 pub mod Examples
 pub mod Fits
 pub mod Allowed
+pub mod Regions
