@@ -1,0 +1,11 @@
+pub mod NameFacts
+pub mod Operands
+pub mod Layouts
+pub mod Refines
+pub mod Runs
+pub mod Pieces
+pub mod Fitting
+pub mod Allowing
+pub mod Checking
+pub mod Ruling
+pub mod Regions
