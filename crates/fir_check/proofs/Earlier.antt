@@ -1,5 +1,5 @@
 -- Whether a name stands in front of a place in a list, by the place of the first item that has it.
-use Rattle.std.proofs.Common.{ℕ, zero, suc, Bool, true, false, cond, ◌||◌, ◌≡◌, ◌+◌, ◌≤◌, nat_lt, Option, None, Some, List, [], ◌∷◌, map, take, refl, sym, ap, ◌∙◌, arith}
+use Rattle.std.proofs.Common.{ℕ, zero, suc, Bool, true, false, cond, ◌||◌, ◌≡◌, ◌+◌, ◌≤◌, nat_lt, Some, List, [], ◌∷◌, map, take, refl, sym, ap, ◌∙◌, arith}
 use Rattle.std.proofs.lemmas.Bool.Decides.{nat_tests}
 use Rattle.std.specs.Prelude.{bytes_eq}
 use Rattle.std.specs.List.{list_any, position_from}
