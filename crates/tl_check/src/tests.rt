@@ -105,7 +105,9 @@ fn check_later(alloc: Global) -> Checking {
 fn a_test_that_keeps_the_rules_comes_back(rt: HostRuntime) -> Result<(), Fail> {
     let checked = check_kept(rt.alloc()).ok().ok_or("memory")?;
     let checked = checked.ok().ok_or("refused")?;
+    let checked = checked.copy(rt.alloc())?;
     let core = CoreTest::from_checked(checked).ok_or("a driver stands in it")?;
+    let core = core.copy(rt.alloc())?;
     let printed = print_test(rt.alloc(), core.test()).ok().ok_or("memory")?;
     assert_eq!(rt; printed.as_slice(), b"let v = 3;\npoke a = v;\n".as_slice());
     Ok(())
