@@ -9,3 +9,4 @@ pub mod Allowing
 pub mod Checking
 pub mod Ruling
 pub mod Regions
+pub mod Compared
