@@ -22,6 +22,9 @@ and_parts : (a b : Bool) → (a && b) ≡ true → (a ≡ true) × (b ≡ true)
 and_parts true b e = (refl, e)
 and_parts false b e = absurd (cc)
 
+apart : {A : Type 0} → false ≡ true → A
+apart e = absurd (cc)
+
 same_op : (a b : TestOp) → (op.ghosts).eq a b ≡ true → a ≡ b
 same_op Add Add e = refl
 same_op Sub Sub e = refl
@@ -37,12 +40,12 @@ same_op Lt Lt e = refl
 same_op Leq Leq e = refl
 same_op Gt Gt e = refl
 same_op Geq Geq e = refl
-same_op _ _ e = absurd (cc)
+same_op _ _ e = apart e
 
 same_region : (a b : Region) → (region.ghosts).eq a b ≡ true → a ≡ b
 same_region Main Main e = refl
 same_region Monitor Monitor e = refl
-same_region _ _ e = absurd (cc)
+same_region _ _ e = apart e
 
 same_signal : (a b : Signal) → (signal.ghosts).eq a b ≡ true → a ≡ b
 same_signal a b e = let t : nat_eq a.0 b.0 ≡ true = e in ap (λ (n : ℕ). record { 0 = n }) (eqb-true a.0 b.0 t)
@@ -52,7 +55,7 @@ same_item (Number n) (Number m) e = let t : nat_eq n m ≡ true = e in ap Number
 same_item (Slot n) (Slot m) e = let t : nat_eq n m ≡ true = e in ap Slot (eqb-true n m t)
 same_item Negate Negate e = refl
 same_item (Apply a) (Apply b) e = ap Apply (same_op a b e)
-same_item _ _ e = absurd (cc)
+same_item _ _ e = apart e
 
 same_items : (a b : List Item) → pointwise ((item.ghosts).eq) a b ≡ true → a ≡ b
 same_items [] [] e = refl
@@ -111,7 +114,7 @@ same_instr (i.Fork l g x p) (i.Fork m k y q) e =
     let z = numbered x y (nat_eq p q) u.1 in
     let v : p ≡ q = eqb-true p q z.1 in cc
 same_instr i.End i.End e = refl
-same_instr _ _ e = absurd (cc)
+same_instr _ _ e = apart e
 
 -- AN INSTRUCTION EQUALS another where `==` says so, and only there
 pub instr_decides : (a b : Instr) (r : Bool) → r ≡ (instr.ghosts).eq a b → Decides r (a ≡ b)
