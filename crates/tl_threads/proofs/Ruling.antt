@@ -1,5 +1,5 @@
 -- A test that keeps the rules has an allowed body.
-use Rattle.std.proofs.Common.{◌≡◌, ◌⊎◌, ℕ, ◌≤◌, List, [], ◌∷◌, ◌++◌, map, Bool, true, false, not, cond, ◌||◌, ◌&&◌, Option, Some, None, is_some, Result, Ok, Err, find, refl, sym, ap, ap₂, subst, ◌∙◌, inl, inr, ⊎_elim, arith}
+use Rattle.std.proofs.Common.{◌≡◌, ◌⊎◌, ℕ, ◌≤◌, List, [], ◌∷◌, ◌++◌, map, Bool, true, false, not, cond, ◌||◌, ◌&&◌, Option, Some, None, is_some, Ok, Err, find, refl, sym, ap, ap₂, subst, ◌∙◌, inl, inr, ⊎_elim, arith}
 use Rattle.std.specs.Str.{bytes_eq}
 use Rattle.std.specs.List.{list_any}
 use Rattle.std.proofs.lemmas.Bool.{or_parts}
@@ -14,9 +14,9 @@ use Rattle.tl_ast.specs.declared.tree.TestStmt.TheOpen.{TestStmt-F}
 use Rattle.tl_ast.specs.declared.tree.TestText.{TestText}
 use Rattle.tl_check.specs.declared.rule.Rule.{Rule}
 use Rattle.tl_check.specs.declared.rule.Rule.TheVariants.{UnknownPort, PokeOutput, LiteralTooWide, UnknownVariable, UnknownHandle, TooManyNames, JoinLaterRegion, ForkEarlierRegion, NotReadyValid, StepZero}
-use Rattle.tl_check.specs.Scopes.{Known as KnownNames, nothing_known, inside_fork, is_among, with_variable, handle_named, is_handle, with_handle, is_monitor, child_region}
+use Rattle.tl_check.specs.Scopes.{Known as KnownNames, nothing_known, inside_fork, is_among, handle_named, is_handle, with_handle, is_monitor, child_region}
 use Rattle.tl_check.specs.Values.{uses_unknown, sets_unknown}
-use Rattle.tl_check.specs.Rules.{Here, first_broken, breaks, all_rules, unknown_variable, unknown_handle, too_many_names, join_later, fork_earlier, watches, writes_main}
+use Rattle.tl_check.specs.Rules.{Here, first_broken, breaks, unknown_variable, unknown_handle, too_many_names, join_later, fork_earlier, watches, writes_main}
 use Rattle.tl_check.specs.Walk.{Ports, Outcome, Part, some_gives, after, in_turn, leave, in_block, gives_level, behind_let, behind_fork, behind, unless_broken, here, part_level, part, line_of, broken_in, test_rule}
 use Rattle.tl_threads.specs.Values.{Name, expr_of}
 use Rattle.tl_threads.specs.Bodies.{Body, Piece, chain, level_piece, piece, test_body}

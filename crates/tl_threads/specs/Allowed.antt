@@ -1,12 +1,12 @@
 -- What the rules of tests say of a body: each name that is used is known, no child is forked into a lesser region, and no child is joined
 -- that may be of a greater region.
-use Rattle.std.specs.Prelude.{◌≡◌, ℕ, ◌≤◌, max, Bool, true, List, [], ◌∷◌, map, length, Option, Some, None}
+use Rattle.std.specs.Prelude.{◌≡◌, ℕ, ◌≤◌, max, Bool, true, List, [], map, length, Option, Some, None}
 use Rattle.tb_base.specs.declared.path.Region.{Region}
 use Rattle.tb_base.specs.declared.path.Region.TheVariants.{Main}
 use Rattle.tl_ast.specs.declared.tree.TestText.{TestText}
 use Rattle.tl_check.specs.Scopes.{Known as KnownNames, nothing_known, inside_fork, handle_named, with_handle, is_monitor}
 use Rattle.tl_check.specs.Walk.{Ports, behind_let, behind_fork, test_rule}
-use Rattle.tl_threads.specs.Values.{Name, Expr}
+use Rattle.tl_threads.specs.Values.{Name}
 use Rattle.tl_threads.specs.Bodies.{Body, test_body}
 use Rattle.tl_threads.specs.Bodies.Body.{nil, poke_port, peek_port, expect_port, step_by, let_var, if_true, while_true, repeat_by, fork_as, join_of, joinstep_of}
 use Rattle.tl_threads.specs.Threads.{region_number}

@@ -199,4 +199,81 @@ impl Instr {
     {
         self == other
     }
+
+    /// An equal instruction. Takes no memory; `Err(Memory)` is as for [`Operand::copy`].
+    pub fn copy(&self) -> Result<Instr, Memory>
+        ensures { IfOk result (λ i. i ≡ self.now) }
+    {
+        Ok(match self {
+            Instr::Poke { line, port, value } => Instr::Poke {
+                line: *line,
+                port: *port,
+                value: value.copy()?,
+            },
+            Instr::Peek { line, port, into } => Instr::Peek {
+                line: *line,
+                port: *port,
+                into: *into,
+            },
+            Instr::Expect { line, port, value } => Instr::Expect {
+                line: *line,
+                port: *port,
+                value: value.copy()?,
+            },
+            Instr::Step { line, count } => Instr::Step {
+                line: *line,
+                count: *count,
+            },
+            Instr::Store { line, slot, value } => Instr::Store {
+                line: *line,
+                slot: *slot,
+                value: value.copy()?,
+            },
+            Instr::Unless { line, cond, other } => Instr::Unless {
+                line: *line,
+                cond: cond.copy()?,
+                other: *other,
+            },
+            Instr::Goto { to } => Instr::Goto { to: *to },
+            Instr::Enter { line, cond, out } => Instr::Enter {
+                line: *line,
+                cond: cond.copy()?,
+                out: *out,
+            },
+            Instr::Turn { line, cond, back } => Instr::Turn {
+                line: *line,
+                cond: cond.copy()?,
+                back: *back,
+            },
+            Instr::Count { line, count, out } => Instr::Count {
+                line: *line,
+                count: count.copy()?,
+                out: *out,
+            },
+            Instr::Again { line, back } => Instr::Again {
+                line: *line,
+                back: *back,
+            },
+            Instr::Fork {
+                line,
+                region,
+                slot,
+                after,
+            } => Instr::Fork {
+                line: *line,
+                region: *region,
+                slot: *slot,
+                after: *after,
+            },
+            Instr::Join { line, slot } => Instr::Join {
+                line: *line,
+                slot: *slot,
+            },
+            Instr::JoinStep { line, slot } => Instr::JoinStep {
+                line: *line,
+                slot: *slot,
+            },
+            Instr::End => Instr::End,
+        })
+    }
 }

@@ -4,6 +4,15 @@ ghost use Rattle.tl_threads.specs.Fits.{StandsFits, FitsStands, RootStands};
 ghost use Rattle.tl_threads.specs.Allowed.{RulesAllow, AllowedIsChecked};
 ghost use Rattle.tl_threads.specs.Regions.{MovesFit, RootFits};
 
+use crate::code::Placed;
+
+fn shared<T: Send + Sync>(_value: &T) {}
+
+/// Placed instructions can be sent to other threads of the program, and be read by several at once.
+pub fn code_can_be_shared(placed: &Placed) {
+    shared(placed)
+}
+
 /// The number of an expression's postfix form is the number of the expression, where its variables are known and the slots have their
 /// numbers.
 pub fn operands_are_values()
