@@ -10,3 +10,4 @@ pub mod Checking
 pub mod Ruling
 pub mod Regions
 pub mod Compared
+pub mod Bounding
