@@ -1,14 +1,14 @@
 -- An allowed body is checked, with slots enough.
-use Rattle.std.proofs.Common.{◌≡◌, ℕ, ◌<◌, ◌≤◌, max, List, [], ◌∷◌, length, Bool, Option, Some, None, sym, ap, subst, ◌∙◌, arith}
+use Rattle.std.proofs.Common.{◌≡◌, ℕ, ◌≤◌, List, [], length, Option, Some, None, sym, subst, arith}
 use Rattle.tb_base.specs.declared.path.Region.{Region}
 use Rattle.tb_base.specs.declared.path.Region.TheVariants.{Main}
 use Rattle.tl_check.specs.Scopes.{Known as KnownNames, nothing_known, inside_fork, with_variable, with_handle}
 use Rattle.tl_check.specs.Walk.{behind_let, behind_fork}
-use Rattle.tl_threads.specs.Values.{Name, Expr}
+use Rattle.tl_threads.specs.Values.{Name}
 use Rattle.tl_threads.specs.Bodies.{Body}
 use Rattle.tl_threads.specs.Bodies.Body.{nil, poke_port, peek_port, expect_port, step_by, let_var, if_true, while_true, repeat_by, fork_as, join_of, joinstep_of}
-use Rattle.tl_threads.specs.Code.{slot_found, slot, with_name}
-use Rattle.tl_threads.specs.Stands.{Known, KnownIn, Settable, Checked}
+use Rattle.tl_threads.specs.Code.{slot, with_name}
+use Rattle.tl_threads.specs.Stands.{Settable, Checked}
 use Rattle.tl_threads.specs.Allowed.{names_of, KnownInto, Allowed, most_vars, most_handles}
 use Rattle.tl_threads.proofs.NameFacts.{find_below, known_slot, with_length}
 use Rattle.tl_threads.proofs.Allowing.{with_same, names_with, handle_known}

@@ -1,32 +1,28 @@
 -- Worked examples: numbers of expressions, next moves, the body and the code of a test.
 --
 -- Port 3 is an input `a`, port 5 an output `y`. Lines are as in a text.
-use Rattle.std.specs.Prelude.{◌≡◌, ℕ, zero, suc, ◌^◌, ◌-◌, Bool, true, false, List, [], ◌∷◌, Option, Some, None, codes, slice_get}
+use Rattle.std.specs.Prelude.{◌≡◌, ℕ, ◌^◌, ◌-◌, true, false, List, [], ◌∷◌, Some, None, codes}
 use Rattle.std.specs.FinMap as map
-use Rattle.tb_base.specs.declared.path.Region.{Region}
 use Rattle.tb_base.specs.declared.path.Region.TheVariants.{Main, Monitor}
 use Rattle.net_core.specs.declared.ports.Signal.{Signal}
-use Rattle.net_core.specs.declared.ports.PortInfo.{PortInfo}
 use Rattle.tl_ast.specs.declared.tree.TestOp.TheVariants.{Add, Sub, Mul, And, Or, Xor, Shl, Shr, Eq, Neq, Lt, Leq, Gt, Geq}
 use Rattle.tl_ast.specs.declared.tree.TestExpr.TheVariants as e
 use Rattle.tl_ast.specs.declared.tree.TestStmt.{TestStmt}
 use Rattle.tl_ast.specs.declared.tree.TestStmt.TheVariants as s
 use Rattle.tl_check.specs.Walk.{Ports}
-use Rattle.bench_model.specs.World.{Move}
 use Rattle.bench_model.specs.World.Move.{poke, peek, expect, fork, join, arrive, joinstep, spend, end}
 use Rattle.tl_threads.specs.declared.code.Item.TheVariants.{Number, Slot, Negate, Apply}
 use Rattle.tl_threads.specs.declared.code.Placed.{Placed}
 use Rattle.tl_threads.specs.declared.code.Instr.{Instr}
 use Rattle.tl_threads.specs.declared.code.Instr.TheVariants as i
-use Rattle.tl_threads.specs.Values.{Name, Numbers, Expr, operated, negated, value}
+use Rattle.tl_threads.specs.Values.{Name, Numbers, operated, negated, value}
 use Rattle.tl_threads.specs.Values.Expr.{number, variable, minus, two}
 use Rattle.tl_threads.specs.Bodies.{Body, test_body}
 use Rattle.tl_threads.specs.Bodies.Body.{nil, poke_port, peek_port, expect_port, step_by, let_var, if_true, while_true, repeat_by, fork_as, join_of, joinstep_of}
-use Rattle.tl_threads.specs.Threads.{Frame, Inner, next, root_of, keeps, begins}
-use Rattle.tl_threads.specs.Threads.Frame.{block, turn, again}
-use Rattle.tl_threads.specs.Code.{Scope, first_scope, child_scope, deeper, at, test_code, operand}
-use Rattle.tl_threads.specs.Machine.{Did, Core, taken, run}
-use Rattle.tl_threads.specs.Machine.Doing.{pokes, spends}
+use Rattle.tl_threads.specs.Threads.{next, root_of, keeps, begins}
+use Rattle.tl_threads.specs.Threads.Frame.{block, again}
+use Rattle.tl_threads.specs.Code.{first_scope, child_scope, deeper, at, test_code, operand}
+use Rattle.tl_threads.specs.Machine.{taken}
 
 abbrev greatest : ℕ
 greatest = 2 ^ 128 - 1

@@ -1,5 +1,5 @@
 -- Which places, slots and counts fit a code: exactly those that stand for a thread.
-use Rattle.std.specs.Prelude.{◌≡◌, ℕ, ◌<◌, List, [], length, Option, Some, None, slice_get, replicate}
+use Rattle.std.specs.Prelude.{◌≡◌, ℕ, ◌<◌, [], length, Some, None, slice_get, replicate}
 use Rattle.tb_base.specs.declared.path.Region.{Region}
 use Rattle.tb_base.specs.declared.path.Region.TheVariants.{Main}
 use Rattle.tl_threads.specs.declared.code.Placed.{Placed}

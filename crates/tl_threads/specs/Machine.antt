@@ -1,5 +1,5 @@
 -- What flat code does, one instruction after another, over whatever gives the instructions.
-use Rattle.std.specs.Prelude.{ℕ, zero, suc, ◌+◌, List, [], ◌∷◌, Bool, true, false, cond, nat_lt, nat_le, Option, Some, None, slice_index, slice_index_or, slice_get, slice_set}
+use Rattle.std.specs.Prelude.{ℕ, zero, suc, List, [], ◌∷◌, Bool, true, false, cond, nat_lt, nat_le, Option, Some, None, slice_index, slice_get, slice_set}
 use Rattle.tb_base.specs.declared.path.Region.{Region}
 use Rattle.tl_ast.specs.declared.tree.TestOp.{TestOp}
 use Rattle.tl_threads.specs.declared.code.Item.{Item}

@@ -2,7 +2,7 @@
 --
 -- It is a relation: names of blocks that were left stay in a thread's maps, and have no slots. `v` and `h` are the numbers of slots for
 -- variables and for handles, `f` gives what is placed where: any function, so that what is said holds of any code.
-use Rattle.std.specs.Prelude.{◌≡◌, ◌⊎◌, ℕ, zero, suc, ◌+◌, ◌<◌, ◌≤◌, List, [], ◌∷◌, length, Bool, Option, Some, None, is_none, option_map, slice_index, slice_index_or, slice_get, slice_set, replicate}
+use Rattle.std.specs.Prelude.{◌≡◌, ◌⊎◌, ℕ, suc, ◌+◌, ◌<◌, ◌≤◌, List, [], ◌∷◌, length, Bool, Option, Some, None, is_none, slice_index, slice_index_or, slice_get, slice_set, replicate}
 use Rattle.std.specs.FinMap as map
 use Rattle.tb_base.specs.declared.path.Region.{Region}
 use Rattle.bench_model.specs.World.{Move}
