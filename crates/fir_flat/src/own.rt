@@ -14,6 +14,7 @@ use crate::directory::Directory;
 use crate::kinds::{Flow, Kind, Known};
 use crate::scope::Scope;
 use crate::sizes::{size_of, size_of_ports};
+use crate::types::Types;
 use crate::weights::{Weight, weigh};
 use fir_ast::{Expr, Module, Port, ResetPair, Stmt};
 use std::alloc::Global;
@@ -210,8 +211,8 @@ fn count_stmt<'a>(
             let place = modules.place_of(module.bytes());
             tally.add(0, 1);
             tally.instances.push(place)?;
-            let ports = Kind::Ports(modules.ports_at(place));
-            declare(known, name.bytes(), ports, Flow::Source)?;
+            let kind = modules.instance_at(place);
+            declare(known, name.bytes(), kind, Flow::Source)?;
             Ok(())
         }
         Stmt::Connect {
@@ -272,10 +273,14 @@ fn count_block<'a>(
 }
 
 /// The names of the ports.
-fn known_ports<'a>(alloc: Global, ports: &'a [Port]) -> Result<Scope<'a>, Memory>
+fn known_ports<'a>(
+    alloc: Global,
+    types: &'a Types<'a>,
+    ports: &'a [Port],
+) -> Result<Scope<'a>, Memory>
     ensures { IfOk result (λ known. seen known ≡ map unplaced ports.now) }
 {
-    let mut known = Scope::new(alloc);
+    let mut known = Scope::new(alloc, types);
     for port in ports {
         let flow = if port.output {
             Flow::Sink
@@ -302,7 +307,7 @@ pub(crate) fn tally_of<'a>(
     ensures parts { IfOk result (λ t. cut t.parts ≡ cut (own_weight modules.now home.now)) }
     ensures targets { IfOk result (λ t. t.instances.items ≡ targets modules.now (body_of home.now.body)) }
 {
-    let mut known = known_ports(alloc, home.ports.items())?;
+    let mut known = known_ports(alloc, modules.types(), home.ports.items())?;
     let size = size_of_ports(home.ports.items());
     let mut tally = Tally {
         signals: size,

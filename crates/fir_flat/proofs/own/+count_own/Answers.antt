@@ -81,8 +81,8 @@ count_stmt-returns-in_ok-declare-in-Inst t c =
     (λ rest. ap (λ s. statement s rest) c.in-Inst.is ∙ body-Inst c.in-Inst.line c.in-Inst.name c.in-Inst.module rest)
     (λ rest. refl) (λ rest. refl) (λ rest. refl)
     (c.in_ok-declare-in-Inst.ensures.names
-    ∙ ap (λ n. seen c.args.known.now ++ bound n (ports_shape c.ports_at.result.now) Source 0 ∷ []) c.bytes-in-Inst-2.ensures
-    ∙ ap (λ ps. seen c.args.known.now ++ bound c.in-Inst.name (ports_shape ps) Source 0 ∷ []) c.ports_at.ensures
+    ∙ ap (λ n. seen c.args.known.now ++ bound n (kind_shape c.instance_at-kind.result) Source 0 ∷ []) c.bytes-in-Inst-2.ensures
+    ∙ ap (λ (t : Shape). seen c.args.known.now ++ bound c.in-Inst.name t Source 0 ∷ []) c.instance_at-kind.ensures
     ∙ ap (λ p. seen c.args.known.now ++ bound c.in-Inst.name (ports_shape (module_at c.args.modules.now p).ports) Source 0 ∷ []) at)
     c.add-in-Inst.ensures.signals (omega arith) c.add-in-Inst.ensures.parts (omega arith)
     (c.in_ok-push-in-Inst.ensures.items ∙ ap (λ v. v.items ++ c.place_of-place.result ∷ []) c.add-in-Inst.ensures.instances
