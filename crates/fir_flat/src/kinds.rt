@@ -54,10 +54,7 @@ pub(crate) enum Kind<'a> {
     /// A type of the text.
     Of(&'a Ty),
     /// One that the circuit declares, by its number.
-    Numbered {
-        types: &'a Types<'a>,
-        number: usize,
-    },
+    Numbered { types: &'a Types<'a>, number: usize },
     /// That of an instance: a bundle of the ports, the inputs flipped.
     Ports(&'a PortRow<'a>),
     /// A number without a written width, signed or not.
@@ -228,11 +225,7 @@ fn kind_of_member<'a>(types: &'a Types<'a>, member: Member<'a>) -> Kind<'a>
 }
 
 /// The field of a name, by the table of a bundle's fields. The time is that of a look-up.
-pub(crate) fn place_in<'a>(
-    types: &'a Types<'a>,
-    table: &FieldTable<'a>,
-    name: &[u8],
-) -> Place<'a>
+pub(crate) fn place_in<'a>(types: &'a Types<'a>, table: &FieldTable<'a>, name: &[u8]) -> Place<'a>
     ensures { (t : Shape) → Covers types.now t empty table.now → Finds (field_named name.now t) result }
 {
     match table.find(name) {

@@ -9,8 +9,8 @@ ghost use Rattle.fir_flat.specs.Elaboration.{signals, parts};
 
 use crate::directory::Directory;
 use crate::homes::{Home, capped_counts, count_at, part_homes, signal_homes};
-use crate::sizes::size_of_ports;
 use crate::port_rows::{PortRow, port_rows};
+use crate::sizes::size_of_ports;
 use crate::types::Types;
 use fir_ast::{Circuit, Ty};
 use std::alloc::Global;

@@ -67,11 +67,7 @@ fn put_field_partners(
     Ok(())
 }
 
-fn put_port_partners(
-    ports: &[Port],
-    other: Kind,
-    out: &mut Vec<u32>,
-) -> Result<(), Memory>
+fn put_port_partners(ports: &[Port], other: Kind, out: &mut Vec<u32>) -> Result<(), Memory>
     ensures { OnOk result (out.new.items ≡ out.old.items ++ partners_behind 0 (ports_shape ports.now) (kind_shape other.entry)) }
 {
     for port in ports {

@@ -44,11 +44,7 @@ impl<'a> Model for PortRow<'a> {
 }
 
 impl<'a> PortRow<'a> {
-    fn new(
-        alloc: Global,
-        types: &'a Types<'a>,
-        ports: &'a [Port],
-    ) -> Result<PortRow<'a>, Memory>
+    fn new(alloc: Global, types: &'a Types<'a>, ports: &'a [Port]) -> Result<PortRow<'a>, Memory>
         ensures { IfOk result (λ row. row ≡ ports.now) }
     {
         let fields = table_of_ports(alloc, types.list(), ports)?;
