@@ -1,6 +1,8 @@
 -- The rows of the types that a circuit declares.
-use Rattle.std.proofs.Common.{ℕ, zero, suc, ◌≡◌, ◌<◌, ◌≤◌, ◌∙◌, All, None, List, [], ◌∷◌, map, length, get_or, refl, sym, ap, subst, arith}
-use Rattle.std.proofs.lemmas.List.Elements.{All-get_or}
+use Rattle.std.proofs.Common.{ℕ, zero, suc, ◌≡◌, ◌<◌, ◌≤◌, ◌∙◌, All, None, List, [], ◌∷◌, ◌++◌, ◌+◌, map, take, length, get_or, refl, sym, ap, subst, arith, add-one}
+use Rattle.std.proofs.Math.Seq.{take-suc}
+use Rattle.std.proofs.lemmas.List.{map-append}
+use Rattle.std.proofs.lemmas.List.Elements.{All-get_or, All-push}
 use Rattle.fir_ast.specs.declared.tree.Ty.{Ty}
 use Rattle.fir_ast.specs.declared.tree.Ty.TheVariants as ty
 use Rattle.fir_check.specs.Seen.{type_at}
@@ -28,3 +30,11 @@ pub row_past : (types : List Ty) (rows : List Row) (p : Row) (n : ℕ) → AreRo
 row_past types rows p n a h =
     let l : length types ≡ length (row_types rows) = sym (ap length a.same) in
     a.plain ∙ sym (past_last types n (omega (arith, h, l, map_length (λ (x : Row). x.ty.now) rows)))
+
+-- a row for a further listed type
+pub rows_more : (listed : List Listed) (rows : List Row) (r : Row) (i : ℕ) (one : Listed) → row_types rows ≡ types_listed (take i listed) → i < length listed
+    → one ≡ get_or listed i one → r.ty.now ≡ one.ty.now → row_types (rows ++ r ∷ []) ≡ types_listed (take (i + 1) listed)
+rows_more listed rows r i one e h is t =
+    map-append (λ (x : Row). x.ty.now) rows (r ∷ []) ∙ ap (λ ts. ts ++ r.ty.now ∷ []) e ∙ ap (λ (y : Ty). types_listed (take i listed) ++ y ∷ []) (t ∙ ap (λ (l : Listed). l.ty.now) is)
+    ∙ sym (map-append (λ (x : Listed). x.ty.now) (take i listed) (get_or listed i one ∷ []))
+    ∙ ap types_listed (sym (take-suc listed i one h)) ∙ ap (λ n. types_listed (take n listed)) (sym (add-one i))
