@@ -1,7 +1,7 @@
 //! Laws of threads and of code. Each function has no body: its contract is the law.
 ghost use Rattle.tl_threads.specs.Laws.{OperandsAreValues, OneAction, CodeRefines};
 ghost use Rattle.tl_threads.specs.Fits.{StandsFits, FitsStands, RootStands};
-ghost use Rattle.tl_threads.specs.Allowed.{RulesAllow, AllowedIsChecked, RulesBound};
+ghost use Rattle.tl_threads.specs.Allowed.{RulesAllow, AllowedIsChecked, RulesBound, RulesStand};
 ghost use Rattle.tl_threads.specs.Regions.{MovesFit, RootFits};
 
 use crate::code::Placed;
@@ -60,6 +60,12 @@ pub fn rules_bound_the_slots()
 /// An allowed body is checked, where there are no fewer slots than names that are known at one place.
 pub fn what_is_allowed_is_checked()
     ensures { AllowedIsChecked }
+{}
+
+/// The places of a test's code stand for threads, where the test keeps the rules for its ports and there are no fewer slots than names that
+/// are known at one place.
+pub fn rules_make_the_code_stand()
+    ensures { RulesStand }
 {}
 
 /// Each move of a thread that respects regions respects them, whatever the circuit: children are forked into no lesser region, and a child
