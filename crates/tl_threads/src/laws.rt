@@ -2,7 +2,7 @@
 ghost use Rattle.tl_threads.specs.Laws.{OperandsAreValues, OneAction, CodeRefines};
 ghost use Rattle.tl_threads.specs.Fits.{StandsFits, FitsStands, RootStands};
 ghost use Rattle.tl_threads.specs.Allowed.{RulesAllow, AllowedIsChecked, RulesBound, RulesStand};
-ghost use Rattle.tl_threads.specs.Regions.{MovesFit, RootFits};
+ghost use Rattle.tl_threads.specs.Regions.{MovesFit, RootFits, ThreadsMeetLaws};
 
 use crate::code::Placed;
 
@@ -77,4 +77,10 @@ pub fn moves_respect_regions()
 /// The root thread of a test that keeps the rules respects regions.
 pub fn the_root_respects_regions()
     ensures { RootFits }
+{}
+
+/// What the laws of orders ask of the threads of tests over a circuit comes down to this: a poke of an input outside the cone of a signal
+/// leaves the value of the signal.
+pub fn threads_meet_the_laws_of_orders()
+    ensures { ThreadsMeetLaws }
 {}
