@@ -180,10 +180,12 @@ moves_fit limit fitted reads cone r forked i t =
     subst (λ q. FitsMove (threads_over limit fitted reads cone) q forked (next limit i)) t.number
     (within_fits limit fitted reads cone t.region forked i.handles i.forks t.forks limit i.vars i.rest t.known t.rest t.handles)
 
+-- THREADS OVER A CIRCUIT meet the laws of orders where the circuit does
 pub threads_meet_laws : (limit : ℕ) (fitted : (port raw : ℕ) → ℕ) (reads : (inputs registers : List ℕ) (signal : ℕ) → ℕ) (cone : (signal port : ℕ) → Bool)
     → ((ins regs : List ℕ) (s p n : ℕ) → cone s p ≡ false → reads (slice_set ins p n) regs s ≡ reads ins regs s) → ModelLaws (threads_over limit fitted reads cone)
 threads_meet_laws limit fitted reads cone apart = record { value_apart = apart; fits_next = moves_fit limit fitted reads cone }
 
+-- THE ROOT THREAD respects regions
 pub root_fits : (ports : Ports) (test : TestText) → test_rule test ports ≡ None → RespectsRegions 0 [] (root_of (test_body ports test))
 root_fits ports test e = record {
   region = Main;
