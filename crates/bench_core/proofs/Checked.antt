@@ -2,7 +2,7 @@
 use Rattle.std.proofs.Common.{◌≡◌, ℕ, suc, ◌+◌, ◌<◌, ◌≤◌, List, [], ◌∷◌, ◌++◌, length, get_or, drop, Option, Some, None, option_map, option_and_then, refl, ap, sym, ◌∙◌, append_assoc, add-one, drop-cons, drop_of_length-le, length-append}
 use Rattle.std.proofs.lemmas.List.{append-nil}
 use Rattle.net_core.specs.declared.ports.PortInfo.{PortInfo}
-use Rattle.tl_read.specs.declared.tree.TestStmt.{TestStmt}
+use Rattle.tl_ast.specs.declared.tree.TestStmt.{TestStmt}
 use Rattle.bench_core.specs.declared.act.Act.{Act}
 use Rattle.bench_core.specs.Acts.{act_of, acts_of}
 
