@@ -82,7 +82,8 @@ later c w (Poke line port raw) = omega arith
 later c w (Peek line port) = omega arith
 later c w (Expect line port wanted) = either w (number_at c w port == wanted) (observation c w line port (Some wanted))
   where
-    either : (w : World) (b : Bool) (o : Observation) → (if b then counted w else record (recorded o w) { failed = true }).time ≡ w.time + 0
+    either : (w : World) (b : Bool) (o : Observation) → (if b then counted w else record (recorded o w) { failed = true }).time ≡ w.time +
+        0
     either w true o = omega arith
     either w false o = omega arith
 later c w (Arrive line count) = refl
@@ -106,16 +107,19 @@ past_by n false l = absurd cc
 
 past_last : (time count rest : ℕ) → nat_lt last_time (time + count) ≡ true → TimeLimit last_time ≡ by_edges time (count + rest)
 past_last time count rest h =
-    past_by (time + (count + rest)) (nat_lt last_time (time + (count + rest))) (is_past (time + count) (time + (count + rest)) h (omega arith))
+    past_by (time + (count + rest)) (nat_lt last_time (time + (count + rest))) (is_past (time + count) (time + (count + rest)) h (omega
+    arith))
 
-over_late : (w : World) (act : Act) (rest : ℕ) → is_over_at w act ≡ true → is_failed (ended (counted w) (TimeLimit last_time)).outcome ≡ false
+over_late : (w : World) (act : Act) (rest : ℕ) → is_over_at w act ≡ true
+    → is_failed (ended (counted w) (TimeLimit last_time)).outcome ≡ false
     → (ended (counted w) (TimeLimit last_time)).outcome ≡ by_edges w.time (edges_of act + rest)
 over_late w (Poke line port raw) rest o h = absurd cc
 over_late w (Peek line port) rest o h = absurd cc
 over_late w (Expect line port wanted) rest o h = absurd cc
 over_late w (Arrive line count) rest o h = either w.failed o h
   where
-    either : (failed : Bool) → (failed || nat_lt last_time (w.time + count)) ≡ true → is_failed (if failed then Failed w.time else TimeLimit last_time) ≡ false
+    either : (failed : Bool) → (failed || nat_lt last_time (w.time + count)) ≡ true
+        → is_failed (if failed then Failed w.time else TimeLimit last_time) ≡ false
         → (if failed then Failed w.time else TimeLimit last_time) ≡ by_edges w.time (count + rest)
     either true o h = absurd cc
     either false o h = past_last w.time count rest o
@@ -152,7 +156,8 @@ unfinished false time = refl
 
 -- a run that is over before its last act hasn't finished
 count_either : (w : World) (r : Run) (n : ℕ) (over : Bool)
-    → is_finished (if over then ended (counted w) (TimeLimit last_time) else r).outcome ≡ true → (is_finished r.outcome ≡ true → r.actions ≡ n)
+    → is_finished (if over then ended (counted w) (TimeLimit last_time) else r).outcome ≡ true → (is_finished r.outcome ≡ true
+    → r.actions ≡ n)
     → (if over then ended (counted w) (TimeLimit last_time) else r).actions ≡ n
 count_either w r n true h k =
     let no : is_finished (if w.failed then Failed w.time else TimeLimit last_time) ≡ false = unfinished w.failed w.time in

@@ -30,7 +30,8 @@ counted_once c w (Poke line port raw) = refl
 counted_once c w (Peek line port) = refl
 counted_once c w (Expect line port wanted) = either w (number_at c w port == wanted) (observation c w line port (Some wanted))
   where
-    either : (w : World) (b : Bool) (o : Observation) → (if b then counted w else record (recorded o w) { failed = true }).actions ≡ w.actions + 1
+    either : (w : World) (b : Bool) (o : Observation) → (if b then counted w else record (recorded o w) { failed = true }).actions ≡
+        w.actions + 1
     either w true o = refl
     either w false o = refl
 counted_once c w (Arrive line count) = refl
@@ -55,7 +56,8 @@ in_time c w (Poke line port raw) goes h = h
 in_time c w (Peek line port) goes h = h
 in_time c w (Expect line port wanted) goes h = either w (number_at c w port == wanted) (observation c w line port (Some wanted)) h
   where
-    either : (w : World) (b : Bool) (o : Observation) → w.time ≤ last_time → (if b then counted w else record (recorded o w) { failed = true }).time ≤ last_time
+    either : (w : World) (b : Bool) (o : Observation) → w.time ≤ last_time
+        → (if b then counted w else record (recorded o w) { failed = true }).time ≤ last_time
     either w true o h = h
     either w false o h = h
 in_time c w (Arrive line count) goes h = room_left w.failed (w.time + count) goes
@@ -66,14 +68,16 @@ at_act : (c : Elab) (w : World) (acts : List Act) (i : ℕ) (d : Act) → i < le
 at_act c w acts i d h goes =
     let left : drop i acts ≡ get_or acts i d ∷ drop (i + 1) acts = rw add-one (drop-cons acts i d h) in
     ap (run_from c w) left
-    ∙ ap (λ (b : Bool). if b then ended (counted w) (TimeLimit last_time) else run_from c (acted c w (get_or acts i d)) (drop (i + 1) acts)) goes
+    ∙ ap (λ (b : Bool). if b then ended (counted w) (TimeLimit last_time) else run_from c (acted c w (get_or acts i d)) (drop (i + 1)
+    acts)) goes
 
 -- one more act with which the run isn't over
 pub runs_on : (c : Elab) (acts : List Act) (i : ℕ) (elab new : Elab) (w v : World) (d : Act)
     → i < length acts → is_over_at w (get_or acts i d) ≡ false → new ≡ elab → v ≡ acted elab w (get_or acts i d)
     → RunsOn c acts i elab w → RunsOn c acts (i + 1) new v
 runs_on c acts i elab new w v d h goes n e so_far =
-    let of_elab : acted elab w (get_or acts i d) ≡ acted c w (get_or acts i d) = ap (λ (m : Elab). acted m w (get_or acts i d)) so_far.elab_is in
+    let of_elab : acted elab w (get_or acts i d) ≡ acted c w (get_or acts i d) = ap (λ (m : Elab). acted m w (get_or acts i d))
+    so_far.elab_is in
     let actions : v.actions ≡ w.actions + 1 = ap (λ (u : World). u.actions) e ∙ counted_once elab w (get_or acts i d) in
     let time : v.time ≡ (acted elab w (get_or acts i d)).time = ap (λ (u : World). u.time) e in
     let more : (acted elab w (get_or acts i d)).time ≤ last_time = in_time elab w (get_or acts i d) goes so_far.time in

@@ -109,7 +109,11 @@ pub record RunExamples : Type 0 where
   }
   -- an arrival waits for all of its edges, up to the last time step
   pub takes_time : run_of adder (Arrive 1 65535 ∷ []) ≡ record { observations = []; actions = 2; outcome = Finished 65535 }
-  pub at_limit : run_of adder (Arrive 1 2 ∷ Arrive 2 65534 ∷ Peek 3 (s 0) ∷ []) ≡ record { observations = []; actions = 2; outcome = TimeLimit 65535 }
+  pub at_limit : run_of adder (Arrive 1 2 ∷ Arrive 2 65534 ∷ Peek 3 (s 0) ∷ []) ≡ record {
+    observations = [];
+    actions = 2;
+    outcome = TimeLimit 65535;
+  }
   -- a failure counts for more than the limit
   pub failed_at_limit : run_of adder (Expect 1 (s 2) 1 ∷ Arrive 2 65536 ∷ []) ≡ record {
     observations = seen 0 0 1 (s 2) 0 (Some 1) ∷ [];
