@@ -2,44 +2,43 @@ use super::*;
 use net_core::{PortInfo, PortTable, Signal};
 use std::alloc::Global;
 use std::test::Fail;
-use tb_base::{Name, Seq};
-use tl_read::{TestStmt, TestText};
+use tb_base::{Memory, Name, Seq};
+use tl_ast::{TestExpr, TestStmt, TestText};
+use tl_check::{CheckedTest, check_test};
 
-/// The table of one port of eight bits.
-fn one_port(alloc: Global, input: bool, name: &[u8]) -> Result<PortTable, Fail> {
+fn name(alloc: Global, text: &[u8]) -> Result<Name, Memory> {
+    Ok(Name::of(Vec::from_slice(alloc, text)?))
+}
+
+/// A test of one statement, checked for the one port `in`, an input of eight bits.
+fn checked(alloc: Global, stmt: TestStmt) -> Result<CheckedTest, Fail> {
     let mut ports = PortTable::new(alloc);
     let info = PortInfo {
         signal: Signal(0),
-        input,
+        input: true,
         signed: false,
         width: 8,
     };
     ports
-        .add(name.to_vec(alloc)?, info)
+        .add(b"in".to_vec(alloc)?, info)
         .ok()
         .ok_or("no memory")?;
-    Ok(ports)
-}
-
-/// A test that pokes one port.
-fn poke(alloc: Global, port: &[u8], value: u128) -> Result<TestText, Fail> {
-    let port = Name::of(port.to_vec(alloc)?);
     let mut body = Vec::new(alloc);
-    body.push(TestStmt::Poke {
-        line: 1,
-        port,
-        value,
-    })?;
-    Ok(TestText {
+    body.push(stmt)?;
+    let test = TestText {
         body: Seq::of(body),
-    })
+    };
+    Ok(check_test(alloc, &test, &ports).ok().ok_or("refused")?)
 }
 
 #[test]
-fn an_input_is_poked(rt: HostRuntime) -> Result<(), Fail> {
-    let ports = one_port(rt.alloc(), true, b"in")?;
-    let test = poke(rt.alloc(), b"in", 255)?;
-    let acts = check_test(rt.alloc(), &test, &ports)?;
+fn a_poke_of_a_number_is_in_the_first_form(rt: HostRuntime) -> Result<(), Fail> {
+    let stmt = TestStmt::Poke {
+        line: 1,
+        port: name(rt.alloc(), b"in")?,
+        value: TestExpr::Num(255),
+    };
+    let acts = first_acts(rt.alloc(), &checked(rt.alloc(), stmt)?)?;
     let wanted = [Act::Poke {
         line: 1,
         port: Signal(0),
@@ -50,12 +49,15 @@ fn an_input_is_poked(rt: HostRuntime) -> Result<(), Fail> {
 }
 
 #[test]
-fn an_output_is_not_poked(rt: HostRuntime) -> Result<(), Fail> {
-    let ports = one_port(rt.alloc(), false, b"out")?;
-    let test = poke(rt.alloc(), b"out", 1)?;
+fn a_variable_is_not_in_the_first_form(rt: HostRuntime) -> Result<(), Fail> {
+    let stmt = TestStmt::Let {
+        line: 1,
+        name: name(rt.alloc(), b"v")?,
+        value: TestExpr::Num(1),
+    };
     assert_eq!(rt;
-        check_test(rt.alloc(), &test, &ports).err(),
-        Some(TestFault::NotInForm)
+        first_acts(rt.alloc(), &checked(rt.alloc(), stmt)?).err(),
+        Some(FormFault::NotInForm)
     );
     Ok(())
 }
