@@ -1,17 +1,17 @@
+ghost use Rattle.std.specs.Prelude.{◌≤◌, length};
+ghost use Rattle.tl_written.specs.Written.{text_limit};
+
 use super::*;
 use net_core::{PortInfo, PortTable, Signal};
 use std::alloc::Global;
 use std::test::Fail;
-use tb_base::{Memory, Name, Seq};
-use tl_ast::{TestExpr, TestStmt, TestText};
+use tb_base::Memory;
 use tl_check::{CheckedTest, check_test};
+use tl_text::read_test;
+use tl_written::texts_spell_written_tests;
 
-fn name(alloc: Global, text: &[u8]) -> Result<Name, Memory> {
-    Ok(Name::of(Vec::from_slice(alloc, text)?))
-}
-
-/// A test of one statement, checked for the one port `in`, an input of eight bits.
-fn checked(alloc: Global, stmt: TestStmt) -> Result<CheckedTest, Fail> {
+/// One port, the input `in` of eight bits.
+fn table(alloc: Global) -> Result<PortTable, Memory> {
     let mut ports = PortTable::new(alloc);
     let info = PortInfo {
         signal: Signal(0),
@@ -19,26 +19,26 @@ fn checked(alloc: Global, stmt: TestStmt) -> Result<CheckedTest, Fail> {
         signed: false,
         width: 8,
     };
-    ports
-        .add(b"in".to_vec(alloc)?, info)
-        .ok()
-        .ok_or("no memory")?;
-    let mut body = Vec::new(alloc);
-    body.push(stmt)?;
-    let test = TestText {
-        body: Seq::of(body),
+    ports.add(Vec::from_slice(alloc, b"in")?, info)?;
+    Ok(ports)
+}
+
+/// The test of a text, where it spells one that keeps the rules.
+fn checked(alloc: Global, text: &[u8], ports: &PortTable) -> Option<CheckedTest>
+    requires { length text.now ≤ text_limit }
+{
+    let Ok(test) = read_test(alloc, text) else {
+        return None;
     };
-    Ok(check_test(alloc, &test, &ports).ok().ok_or("refused")?)
+    texts_spell_written_tests();
+    check_test(alloc, &test, ports).ok()
 }
 
 #[test]
 fn a_poke_of_a_number_is_in_the_first_form(rt: HostRuntime) -> Result<(), Fail> {
-    let stmt = TestStmt::Poke {
-        line: 1,
-        port: name(rt.alloc(), b"in")?,
-        value: TestExpr::Num(255),
-    };
-    let acts = first_acts(rt.alloc(), &checked(rt.alloc(), stmt)?)?;
+    let ports = table(rt.alloc())?;
+    let checked = checked(rt.alloc(), b"poke in = 255;", &ports).ok_or("refused")?;
+    let acts = first_acts(rt.alloc(), &checked)?;
     let wanted = [Act::Poke {
         line: 1,
         port: Signal(0),
@@ -50,13 +50,10 @@ fn a_poke_of_a_number_is_in_the_first_form(rt: HostRuntime) -> Result<(), Fail> 
 
 #[test]
 fn a_variable_is_not_in_the_first_form(rt: HostRuntime) -> Result<(), Fail> {
-    let stmt = TestStmt::Let {
-        line: 1,
-        name: name(rt.alloc(), b"v")?,
-        value: TestExpr::Num(1),
-    };
+    let ports = table(rt.alloc())?;
+    let checked = checked(rt.alloc(), b"let v = 1;", &ports).ok_or("refused")?;
     assert_eq!(rt;
-        first_acts(rt.alloc(), &checked(rt.alloc(), stmt)?).err(),
+        first_acts(rt.alloc(), &checked).err(),
         Some(FormFault::NotInForm)
     );
     Ok(())
