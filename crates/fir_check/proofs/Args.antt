@@ -116,20 +116,25 @@ wrong_last kind ms m k l =
     ∙ three (list_any v (take 1 ms)) (list_any w (drop 1 (take n ms))) (list_any g (drop n ms)) ((length ms == 0) && v m) (not (length ms == 0) && (nat_lt (length ms) n && w m)) (nat_le n (length ms) && g m)
     ∙ ap (λ j. wrong_verif kind ms || misplaced j n m) l
 
--- what a judgement says of an expression
-pub record ArgTold (T : List Ty) (known : List Known) (e : Expr) (j : Judgement) : Type 0 where
+-- what a judgement says of an expression, where something in front of it may be of the wrong kind already
+pub record ArgTold (T : List Ty) (known : List Known) (before : Bool) (e : Expr) (j : Judgement) : Type 0 where
   pub meaning : option_map (meant T) j.meaning ≡ meaning_of known e
   pub unknown : j.unknown ≡ somewhere unknown_level known e
-  pub wrong : j.wrong ≡ somewhere wrong_level known e
+  pub wrong : j.wrong ≡ somewhere wrong_level known e || before
   pub clock : j.clock ≡ somewhere clock_level known e
 
-args_last : (T : List Ty) → (kind : VerifKind) (known : List Known) (xs : List Expr) (k : ℕ) (e : Expr) (a : Args) (j : Judgement) → length xs ≡ k → ArgsTold kind known xs a → ArgTold T known e j
+wrong_behind : (a b : Bool) → a || (b || a) ≡ a || b
+wrong_behind true b = refl
+wrong_behind false true = refl
+wrong_behind false false = refl
+
+args_last : (T : List Ty) → (kind : VerifKind) (known : List Known) (xs : List Expr) (k : ℕ) (e : Expr) (a : Args) (j : Judgement) → length xs ≡ k → ArgsTold kind known xs a → ArgTold T known a.wrong e j
     → ArgsTold kind known (xs ++ e ∷ []) (with_arg T k (operands_before kind) a j)
 args_last T kind known xs k e a j l g h =
     let n : ℕ = operands_before kind in
     record {
       unknown = ap (λ b. b || j.unknown) g.unknown ∙ ap (λ b. list_any (somewhere unknown_level known) xs || b) h.unknown ∙ sym (any_last (somewhere unknown_level known) xs e);
-      wrong = ap (λ b. b || j.wrong) g.wrong ∙ ap (λ b. list_any (somewhere wrong_level known) xs || b) h.wrong ∙ sym (any_last (somewhere wrong_level known) xs e);
+      wrong = ap (λ b. a.wrong || b) h.wrong ∙ wrong_behind a.wrong (somewhere wrong_level known e) ∙ ap (λ b. b || somewhere wrong_level known e) g.wrong ∙ sym (any_last (somewhere wrong_level known) xs e);
       clock = ap (λ b. b || j.clock) g.clock ∙ ap (λ b. list_any (somewhere clock_level known) xs || b) h.clock ∙ sym (any_last (somewhere clock_level known) xs e);
       unfit = ap (λ b. b || misplaced k n (option_map (meant T) j.meaning)) g.unfit ∙ ap (λ m. wrong_verif kind (map (meaning_of known) xs) || misplaced k n m) h.meaning
           ∙ sym (wrong_last kind (map (meaning_of known) xs) (meaning_of known e) k (map_length (meaning_of known) xs ∙ l)) ∙ ap (wrong_verif kind) (sym (map_last (meaning_of known) xs e));
@@ -152,7 +157,7 @@ args_none Assume known a e = rw e (record { unknown = refl; wrong = refl; clock 
 args_none Cover known a e = rw e (record { unknown = refl; wrong = refl; clock = refl; unfit = refl; clocked = refl })
 
 pub args_next : (T : List Ty) → (kind : VerifKind) (known : List Known) (es : List Expr) (k n : ℕ) (e : Expr) (a b : Args) (j : Judgement) → k < length es → e ≡ get_or es k e → n ≡ operands_before kind
-    → ArgsTold kind known (take k es) a → ArgTold T known e j → b ≡ with_arg T k n a j → ArgsTold kind known (take (k + 1) es) b
+    → ArgsTold kind known (take k es) a → ArgTold T known a.wrong e j → b ≡ with_arg T k n a j → ArgsTold kind known (take (k + 1) es) b
 args_next T kind known es k n e a b j w i o g h q =
     let t : take (k + 1) es ≡ take k es ++ e ∷ [] = ap (λ x. take x es) (add-one k) ∙ take-suc es k e w ∙ ap (λ x. take k es ++ x ∷ []) (sym i) in
     subst (λ (x : Args). ArgsTold kind known (take (k + 1) es) x) (sym (q ∙ ap (λ x. with_arg T k x a j) o))

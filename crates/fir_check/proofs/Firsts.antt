@@ -63,6 +63,21 @@ module _ {X : Type 0} (name_of : X → List ℕ) where
     counts = sym q ∙ c ∙ ap (λ t. t && not (is_among n (map name_of (take k xs)))) h ∙ ap (λ m. test && not (is_among m (map name_of (take k xs)))) e;
   }
 
+  -- the same, where the names are looked at first
+  pub placed_past : (xs : List X) (k : ℕ) (x : X) (test old r b : Bool) (n : List ℕ) → k < length xs → x ≡ get_or xs k x → n ≡ name_of x
+      → old ≡ is_among n (map name_of (take k xs)) → r ≡ (not old && test) → r ≡ b → At xs k x test b
+  placed_past xs k x test old r b n w i e o c q = record {
+    within = w;
+    is = i;
+    counts = sym q ∙ c ∙ turn (not old) test ∙ ap (λ a. test && not a) o ∙ ap (λ m. test && not (is_among m (map name_of (take k xs)))) e;
+  }
+    where
+      turn : (a b : Bool) → (a && b) ≡ (b && a)
+      turn true true = refl
+      turn true false = refl
+      turn false true = refl
+      turn false false = refl
+
   is_first : (xs : List X) (k : ℕ) (x : X) → is_among (name_of x) (before [] xs k) ≡ is_among (name_of x) (map name_of (take k xs))
   is_first xs k x = before_among (name_of x) [] xs k ∙ or_swap (is_among (name_of x) (map name_of (take k xs))) false
 

@@ -1,5 +1,5 @@
 -- What the fold over an expression gives at each variant, as the code gathers it.
-use Rattle.std.proofs.Common.{ℕ, zero, suc, Bool, true, false, not, ◌&&◌, ◌||◌, ◌≡◌, ◌+◌, ◌<◌, ◌==◌, List, [], ◌∷◌, ◌++◌, length, map, take, drop, get_or, refl, sym, ap, ◌∙◌, subst, arith, add-one, Option, None, Some, is_some, option_map, if◌then◌else◌}
+use Rattle.std.proofs.Common.{ℕ, zero, suc, Bool, true, false, not, ◌&&◌, ◌||◌, ◌≡◌, ◌+◌, ◌<◌, ◌==◌, List, [], ◌∷◌, ◌++◌, length, map, take, drop, get_or, refl, sym, ap, ◌∙◌, subst, arith, add-one, Option, None, Some, is_some, option_map, option_and_then, if◌then◌else◌}
 use Rattle.std.specs.List.{list_any, list_all}
 use Rattle.std.proofs.Math.Seq.{take-suc}
 use Rattle.std.proofs.Math.Dec.{eqb-suc-zero, eqb-zero-suc, eqb-suc-suc}
@@ -8,16 +8,15 @@ use Rattle.tb_base.specs.declared.op.Op.TheVariants.{Add, Sub, Mul, Div, Rem, Lt
 use Rattle.fir_ast.specs.declared.tree.Ty.{Ty}
 use Rattle.fir_ast.specs.declared.tree.Expr.{Expr}
 use Rattle.fir_ast.specs.declared.tree.Expr.TheVariants as expr
-use Rattle.fir_ast.specs.declared.tree.Expr.TheVariants.{rolls-Index}
-use Rattle.fir_ast.specs.declared.tree.Expr.TheOpen.{Apply}
+use Rattle.fir_ast.specs.declared.tree.Expr.TheOpen.{Index, Apply}
 use Rattle.fir_check.specs.declared.exprs.Judgement.{Judgement}
 use Rattle.fir_check.specs.declared.exprs.Operands.{Operands}
 use Rattle.fir_check.specs.declared.thing.Thing.{Thing as LentThing}
 use Rattle.fir_check.specs.Seen.{meant}
-use Rattle.fir_check.specs.Scopes.{Thing, Known, LevelRule, Judged, judged, judged_level, operand, meaning_of, applied_thing}
-use Rattle.fir_check.specs.Rules.{fails, is_operand, has_no_clock, wrong_operands, unknown_level, wrong_level, clock_level}
+use Rattle.fir_check.specs.Scopes.{Thing, Known, LevelRule, Judged, judged, judged_level, element_thing, operand, meaning_of, applied_thing}
+use Rattle.fir_check.specs.Rules.{fails, is_operand, has_no_clock, wrong_index, wrong_operands, unknown_level, wrong_level, clock_level}
 use Rattle.fir_check.specs.Judging.{no_rule, verdict, meaning_seen, Judges, Gathers, is_broken, meaning_under, with_operand, applied_given, wrong_given, wrong_mux, misfit, clock_given}
-use Rattle.fir_check.proofs.Unrolled.{expr-Apply}
+use Rattle.fir_check.proofs.Unrolled.{expr-Apply, expr-Index}
 use Rattle.fir_check.proofs.Names.{or_false}
 use Rattle.fir_check.proofs.Bundles.{any_map}
 
@@ -175,21 +174,31 @@ apply_under rule known op es nums e =
     ∙ ap (λ b. verdict (applied_thing op (map (meaning_of known) es)) (rule known (Apply op (map (meaning_of known) es) nums) || b))
     (any_map (λ (a : Judged). a.broken) (judged rule known) es)
 
-pub judges_apply : (T : List Ty) → (known : List Known) (op : Op) (es : List Expr) (nums : List ℕ) (o : Operands) (j : Judgement) → Gathers T known es o
-    → Holds T j (applied_given op (option_map (meant T) o.first) (option_map (meant T) o.second)) o.unknown (wrong_given T op o || o.wrong) (clock_given op o.clocked || o.clock)
-    → Judges T known (expr.Apply op es nums) j
-judges_apply T known op es nums o j g s =
+-- one that is wrong besides, in front of what was wrong before
+one_besides : (list before w : Bool) → (list || before) || w ≡ (w || list) || before
+one_besides true before true = refl
+one_besides true before false = refl
+one_besides false true true = refl
+one_besides false true false = refl
+one_besides false false true = refl
+one_besides false false false = refl
+
+pub judges_apply : (T : List Ty) → (known : List Known) (before : Bool) (op : Op) (es : List Expr) (nums : List ℕ) (o : Operands) (j : Judgement) → Gathers T known before es o
+    → Holds T j (applied_given op (option_map (meant T) o.first) (option_map (meant T) o.second)) o.unknown (o.wrong || wrong_given T op o) (clock_given op o.clocked || o.clock)
+    → Judges T known before (expr.Apply op es nums) j
+judges_apply T known before op es nums o j g s =
     let ms : List (Option Thing) = map (meaning_of known) es in
     let m : meaning_seen T j ≡ applied_thing op ms =
     s.meaning_is ∙ ap (λ a. applied_given op a (option_map (meant T) o.second)) g.first ∙ ap (applied_given op (operand 0 ms)) g.second ∙ sym (applied_is op ms) in
     record {
       meaning = apply_under no_rule known op es nums refl ∙ verdict_same _ _ _ _ m (sym g.sound);
       unknown = apply_under unknown_level known op es nums g.under_unknown ∙ verdict_same _ _ _ _ m (s.unknown_is ∙ g.unknown);
-      wrong = apply_under wrong_level known op es nums g.under_wrong
-          ∙ verdict_same _ _ _ _ m
-          (s.wrong_is
-          ∙ ap (λ b. b || o.wrong) (sym (wrong_is T op ms o (record { first = g.first; second = g.second; third = g.third; all_known = g.all_known; unfit = g.unfit })))
-          ∙ ap (λ b. wrong_operands op ms || b) g.wrong);
+      wrong = s.wrong_is
+          ∙ ap (λ b. o.wrong || b) (sym (wrong_is T op ms o (record { first = g.first; second = g.second; third = g.third; all_known = g.all_known; unfit = g.unfit })))
+          ∙ ap (λ b. b || wrong_operands op ms) g.wrong
+          ∙ one_besides (list_any (is_broken wrong_level known) es) before (wrong_operands op ms)
+          ∙ ap (λ b. b || before) (sym (ap (λ (v : Judged). v.broken) (apply_under wrong_level known op es nums g.under_wrong)));
+      under_wrong = ap (λ (v : Judged). v.meaning) (apply_under wrong_level known op es nums g.under_wrong) ∙ sym m;
       clock = apply_under clock_level known op es nums g.under_clock
           ∙ verdict_same _ _ _ _ m
           (s.clock_is
@@ -269,9 +278,17 @@ under_last rule known xs e p q =
     ∙ ap (λ m. map (meaning_of known) xs ++ m ∷ []) q
     ∙ sym (map_last (meaning_of known) xs e)
 
-pub gathers_last : (T : List Ty) → (known : List Known) (xs : List Expr) (k : ℕ) (e : Expr) (o : Operands) (j : Judgement) → length xs ≡ k → Gathers T known xs o → Judges T known e j
-    → Gathers T known (xs ++ e ∷ []) (with_operand T k o j)
-gathers_last T known xs k e o j l g h =
+-- an operand that is judged behind the others
+wrong_last : (list before own : Bool) → (list || before) || (own || (list || before)) ≡ (list || own) || before
+wrong_last true before own = refl
+wrong_last false true true = refl
+wrong_last false true false = refl
+wrong_last false false true = refl
+wrong_last false false false = refl
+
+pub gathers_last : (T : List Ty) → (known : List Known) (before : Bool) (xs : List Expr) (k : ℕ) (e : Expr) (o : Operands) (j : Judgement) → length xs ≡ k → Gathers T known before xs o
+    → Judges T known o.wrong e j → Gathers T known before (xs ++ e ∷ []) (with_operand T k o j)
+gathers_last T known before xs k e o j l g h =
     let ms : List (Option Thing) = map (meaning_of known) xs in
     let m : Option Thing = meaning_of known e in
     let z : map (meaning_of known) (xs ++ e ∷ []) ≡ ms ++ m ∷ [] = map_last (meaning_of known) xs e in
@@ -289,12 +306,14 @@ gathers_last T known xs k e o j l g h =
           ∙ clocked_last k ms m o.clocked n g.clocked ∙ ap (λ t. list_any (fails has_no_clock) (drop 1 t)) (sym z);
       unknown = ap (λ b. b || j.unknown) g.unknown ∙ ap (λ b. list_any (is_broken unknown_level known) xs || b) (sym (ap (λ (v : Judged). v.broken) h.unknown))
           ∙ sym (any_last (is_broken unknown_level known) xs e);
-      wrong = ap (λ b. b || j.wrong) g.wrong ∙ ap (λ b. list_any (is_broken wrong_level known) xs || b) (sym (ap (λ (v : Judged). v.broken) h.wrong))
-          ∙ sym (any_last (is_broken wrong_level known) xs e);
+      wrong = ap (λ b. o.wrong || b) h.wrong
+          ∙ ap (λ b. b || (is_broken wrong_level known e || b)) g.wrong
+          ∙ wrong_last (list_any (is_broken wrong_level known) xs) before (is_broken wrong_level known e)
+          ∙ ap (λ b. b || before) (sym (any_last (is_broken wrong_level known) xs e));
       clock = ap (λ b. b || j.clock) g.clock ∙ ap (λ b. list_any (is_broken clock_level known) xs || b) (sym (ap (λ (v : Judged). v.broken) h.clock))
           ∙ sym (any_last (is_broken clock_level known) xs e);
       under_unknown = under_last unknown_level known xs e g.under_unknown (ap (λ (v : Judged). v.meaning) h.unknown ∙ sym s);
-      under_wrong = under_last wrong_level known xs e g.under_wrong (ap (λ (v : Judged). v.meaning) h.wrong ∙ sym s);
+      under_wrong = under_last wrong_level known xs e g.under_wrong (h.under_wrong ∙ sym s);
       under_clock = under_last clock_level known xs e g.under_clock (ap (λ (v : Judged). v.meaning) h.clock ∙ sym s);
       sound = any_last (is_broken no_rule known) xs e ∙ ap (λ b. b || is_broken no_rule known e) g.sound ∙ ap (λ (v : Judged). v.broken) h.meaning;
     }
@@ -304,9 +323,55 @@ take_length [] k h = absurd (omega arith)
 take_length (x ∷ xs) zero h = refl
 take_length (x ∷ xs) (suc k) h = ap suc (take_length xs k (omega arith))
 
-pub gathers_next : (T : List Ty) → (known : List Known) (es : List Expr) (k : ℕ) (e : Expr) (o p : Operands) (j : Judgement) → k < length es → e ≡ get_or es k e
-    → Gathers T known (take k es) o → Judges T known e j → p ≡ with_operand T k o j → Gathers T known (take (k + 1) es) p
-gathers_next T known es k e o p j w i g h q =
+pub gathers_next : (T : List Ty) → (known : List Known) (before : Bool) (es : List Expr) (k : ℕ) (e : Expr) (o p : Operands) (j : Judgement) → k < length es → e ≡ get_or es k e
+    → Gathers T known before (take k es) o → Judges T known o.wrong e j → p ≡ with_operand T k o j → Gathers T known before (take (k + 1) es) p
+gathers_next T known before es k e o p j w i g h q =
     let t : take (k + 1) es ≡ take k es ++ e ∷ [] = ap (λ n. take n es) (add-one k) ∙ take-suc es k e w ∙ ap (λ x. take k es ++ x ∷ []) (sym i) in
-    subst (λ (x : Operands). Gathers T known (take (k + 1) es) x) (sym q)
-    (subst (λ (xs : List Expr). Gathers T known xs (with_operand T k o j)) (sym t) (gathers_last T known (take k es) k e o j (take_length es k w) g h))
+    subst (λ (x : Operands). Gathers T known before (take (k + 1) es) x) (sym q)
+    (subst (λ (xs : List Expr). Gathers T known before xs (with_operand T k o j)) (sym t) (gathers_last T known before (take k es) k e o j (take_length es k w) g h))
+
+-- an index, judged behind what it is an index of
+
+index_broken : (known : List Known) (of at : Expr) → is_broken wrong_level known (expr.Index of at)
+    ≡ wrong_index (meaning_under wrong_level known of) (meaning_under wrong_level known at) || (is_broken wrong_level known of || is_broken wrong_level known at)
+index_broken known of at = ap (λ (v : Judged). v.broken) (expr-Index Judged (judged_level wrong_level known) of at)
+
+wrong_above : (here below at before : Bool) → here || (at || (below || before)) ≡ (here || (below || at)) || before
+wrong_above true below at before = refl
+wrong_above false true true before = refl
+wrong_above false true false before = refl
+wrong_above false false at before = refl
+
+index_wrong : (T : List Ty) (known : List Known) (before : Bool) (e of at : Expr) (a b j : Judgement) → e ≡ expr.Index of at → Judges T known before of a → Judges T known a.wrong at b
+    → j.wrong ≡ wrong_index (meaning_seen T a) (meaning_seen T b) || b.wrong → j.wrong ≡ is_broken wrong_level known e || before
+index_wrong T known before e of at a b j i g h w =
+    w
+    ∙ ap (λ x. wrong_index (meaning_seen T a) (meaning_seen T b) || x) h.wrong
+    ∙ ap (λ x. wrong_index (meaning_seen T a) (meaning_seen T b) || (is_broken wrong_level known at || x)) g.wrong
+    ∙ wrong_above (wrong_index (meaning_seen T a) (meaning_seen T b)) (is_broken wrong_level known of) (is_broken wrong_level known at) before
+    ∙ ap (λ m. (wrong_index m (meaning_seen T b) || (is_broken wrong_level known of || is_broken wrong_level known at)) || before) (sym g.under_wrong)
+    ∙ ap (λ m. (wrong_index (meaning_under wrong_level known of) m || (is_broken wrong_level known of || is_broken wrong_level known at)) || before) (sym h.under_wrong)
+    ∙ ap (λ x. x || before) (sym (index_broken known of at))
+    ∙ ap (λ x. is_broken wrong_level known x || before) (sym i)
+
+-- an index under one rule
+index_under : (rule : LevelRule) (known : List Known) (of at : Expr) (m n : Option Thing) (b d : Bool) → judged rule known of ≡ verdict m b → judged rule known at ≡ verdict n d
+    → judged rule known (expr.Index of at) ≡ verdict (option_and_then element_thing m) (rule known (Index m n) || (b || d))
+index_under rule known of at m n b d p q =
+    expr-Index Judged (judged_level rule known) of at
+    ∙ ap (λ x. judged_level rule known (Index x (judged rule known at))) p
+    ∙ ap (λ x. judged_level rule known (Index (verdict m b) x)) q
+
+pub judges_index : (T : List Ty) (known : List Known) (before : Bool) (e of at : Expr) (a b j : Judgement) → e ≡ expr.Index of at → Judges T known before of a → Judges T known a.wrong at b
+    → Holds T j (option_and_then element_thing (meaning_seen T a)) (a.unknown || b.unknown) (wrong_index (meaning_seen T a) (meaning_seen T b) || b.wrong) (a.clock || b.clock)
+    → Judges T known before e j
+judges_index T known before e of at a b j i g h s = record {
+  meaning = ap (judged no_rule known) i ∙ index_under no_rule known of at _ _ _ _ g.meaning h.meaning ∙ verdict_same _ _ _ _ s.meaning_is refl;
+  unknown = ap (judged unknown_level known) i ∙ index_under unknown_level known of at _ _ _ _ g.unknown h.unknown ∙ verdict_same _ _ _ _ s.meaning_is s.unknown_is;
+  wrong = index_wrong T known before e of at a b j i g h s.wrong_is;
+  clock = ap (judged clock_level known) i ∙ index_under clock_level known of at _ _ _ _ g.clock h.clock ∙ verdict_same _ _ _ _ s.meaning_is s.clock_is;
+  under_wrong = ap (meaning_under wrong_level known) i
+      ∙ ap (λ (v : Judged). v.meaning) (expr-Index Judged (judged_level wrong_level known) of at)
+      ∙ ap (option_and_then element_thing) g.under_wrong
+      ∙ sym s.meaning_is;
+}

@@ -1,5 +1,6 @@
 pub mod Unrolled
 pub mod Doubles
+pub mod Earlier
 pub mod Firsts
 pub mod Gathered
 pub mod Least

@@ -10,9 +10,9 @@ use Rattle.fir_ast.specs.declared.tree.Ty.TheViews.{out-Ty, out-roll-Ty}
 use Rattle.tb_base.specs.declared.op.Op.{Op}
 use Rattle.fir_ast.specs.declared.tree.Expr.{Expr}
 use Rattle.fir_ast.specs.declared.tree.Expr.TheVariants as expr
-use Rattle.fir_ast.specs.declared.tree.Expr.TheVariants.{rolls-Ident, rolls-Part, rolls-At, rolls-Lit, rolls-Apply}
+use Rattle.fir_ast.specs.declared.tree.Expr.TheVariants.{rolls-Ident, rolls-Part, rolls-At, rolls-Index, rolls-Lit, rolls-Apply}
 use Rattle.fir_ast.specs.declared.tree.Expr.TheFolds.{fold-Expr, fold-roll-Expr}
-use Rattle.fir_ast.specs.declared.tree.Expr.TheOpen.{Expr-F, Ident, Part, At, Lit, Apply}
+use Rattle.fir_ast.specs.declared.tree.Expr.TheOpen.{Expr-F, Ident, Part, At, Index, Lit, Apply}
 use Rattle.fir_ast.specs.declared.tree.ResetPair.{ResetPair}
 use Rattle.fir_ast.specs.declared.tree.Stmt.{Stmt}
 use Rattle.fir_ast.specs.declared.tree.Stmt.TheVariants as stmt
@@ -82,6 +82,9 @@ expr-Part A f e name = ap (fold-Expr A f) (sym (rolls-Part e name)) ∙ fold-rol
 
 pub expr-At : (A : Type 0) (f : Expr-F A → A) (e : Expr) (n : ℕ) → fold-Expr A f (expr.At e n) ≡ f (At (fold-Expr A f e) n)
 expr-At A f e n = ap (fold-Expr A f) (sym (rolls-At e n)) ∙ fold-roll-Expr A f (At e n)
+
+pub expr-Index : (A : Type 0) (f : Expr-F A → A) (of at : Expr) → fold-Expr A f (expr.Index of at) ≡ f (Index (fold-Expr A f of) (fold-Expr A f at))
+expr-Index A f of at = ap (fold-Expr A f) (sym (rolls-Index of at)) ∙ fold-roll-Expr A f (Index of at)
 
 pub expr-Lit : (A : Type 0) (f : Expr-F A → A) (signed : Bool) (width : Option ℕ) (negative : Bool) (n : ℕ) → fold-Expr A f (expr.Lit signed width negative n) ≡ f (Lit signed width negative n)
 expr-Lit A f signed width negative n = ap (fold-Expr A f) (sym (rolls-Lit signed width negative n)) ∙ fold-roll-Expr A f (Lit signed width negative n)

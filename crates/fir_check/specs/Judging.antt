@@ -23,21 +23,24 @@ verdict meaning broken = record { meaning = meaning; broken = broken }
 abbrev pub meaning_seen : (T : List Ty) → Judgement → Option Thing
 meaning_seen T j = option_map (meant T) j.meaning
 
--- what a judgement says of an expression
-pub record Judges (T : List Ty) (known : List Known) (e : Expr) (j : Judgement) : Type 0 where
-  pub meaning : judged no_rule known e ≡ verdict (meaning_seen T j) false
-  pub unknown : judged unknown_level known e ≡ verdict (meaning_seen T j) j.unknown
-  pub wrong : judged wrong_level known e ≡ verdict (meaning_seen T j) j.wrong
-  pub clock : judged clock_level known e ≡ verdict (meaning_seen T j) j.clock
-
 abbrev pub is_broken : LevelRule → List Known → Expr → Bool
 is_broken rule known e = (judged rule known e).broken
 
 abbrev pub meaning_under : LevelRule → List Known → Expr → Option Thing
 meaning_under rule known e = (judged rule known e).meaning
 
--- what is gathered of operands: of the first three what they stand for, of all what breaks a rule
-pub record Gathers (T : List Ty) (known : List Known) (es : List Expr) (o : Operands) : Type 0 where
+-- what a judgement says of an expression, where something in front of it may be of the wrong kind already
+pub record Judges (T : List Ty) (known : List Known) (before : Bool) (e : Expr) (j : Judgement) : Type 0 where
+  pub meaning : judged no_rule known e ≡ verdict (meaning_seen T j) false
+  pub unknown : judged unknown_level known e ≡ verdict (meaning_seen T j) j.unknown
+  pub wrong : j.wrong ≡ is_broken wrong_level known e || before
+  pub clock : judged clock_level known e ≡ verdict (meaning_seen T j) j.clock
+  -- this rule judges the expression to stand for the same
+  pub under_wrong : meaning_under wrong_level known e ≡ meaning_seen T j
+
+-- what is gathered of operands: of the first three what they stand for, of all what breaks a rule, where something in front of them
+-- may be of the wrong kind already
+pub record Gathers (T : List Ty) (known : List Known) (before : Bool) (es : List Expr) (o : Operands) : Type 0 where
   pub first : option_map (meant T) o.first ≡ operand 0 (map (meaning_of known) es)
   pub second : option_map (meant T) o.second ≡ operand 1 (map (meaning_of known) es)
   pub third : option_map (meant T) o.third ≡ operand 2 (map (meaning_of known) es)
@@ -45,7 +48,7 @@ pub record Gathers (T : List Ty) (known : List Known) (es : List Expr) (o : Oper
   pub unfit : o.unfit ≡ list_any (fails is_operand) (map (meaning_of known) es)
   pub clocked : o.clocked ≡ list_any (fails has_no_clock) (drop 1 (map (meaning_of known) es))
   pub unknown : o.unknown ≡ list_any (is_broken unknown_level known) es
-  pub wrong : o.wrong ≡ list_any (is_broken wrong_level known) es
+  pub wrong : o.wrong ≡ list_any (is_broken wrong_level known) es || before
   pub clock : o.clock ≡ list_any (is_broken clock_level known) es
   pub sound : list_any (is_broken no_rule known) es ≡ false
   -- each rule judges the operands to stand for the same

@@ -1,5 +1,5 @@
 -- Tables of names: each name with the number that it was given first.
-use Rattle.std.specs.Prelude.{ℕ, ◌≡◌, Bool, false, nat_eq, Option, Some, None, is_some, if◌then◌else◌, List, [], ◌∷◌, ◌++◌, map, bytes_eq}
+use Rattle.std.specs.Prelude.{ℕ, ◌≡◌, Bool, false, nat_eq, nat_lt, Option, Some, None, is_some, if◌then◌else◌, List, [], ◌∷◌, ◌++◌, map, bytes_eq}
 use Rattle.std.specs.List.{position_from}
 use Rattle.std.specs.declared.vec.Vec.{Vec}
 use Rattle.std.specs.declared.alloc.Global.{Global}
@@ -32,3 +32,8 @@ pub record NamesFields (fields : List Field) (table : List (List ℕ × ℕ)) : 
 abbrev pub is_number : ℕ → Option ℕ → Bool
 is_number n None = false
 is_number n (Some m) = nat_eq m n
+
+-- whether there is a number, and it is below this end
+abbrev pub is_below : ℕ → Option ℕ → Bool
+is_below end None = false
+is_below end (Some n) = nat_lt n end

@@ -104,12 +104,18 @@ fn note_all_ports(alloc: Global, modules: &[Module], best: &mut Best) -> Result<
 }
 
 /// Takes note of the main module's ports that break a rule on these alone.
-fn note_ports_of_main(name: &[u8], modules: &[Module], table: &NameTable, best: &mut Best)
+fn note_ports_of_main(
+    alloc: Global,
+    name: &[u8],
+    modules: &[Module],
+    table: &NameTable,
+    best: &mut Best,
+)
     requires { NamesModules modules.now table.now }
     ensures { best.new ≡ lowered best.old (named_breaks (module_named name.now modules.now)) }
 {
     if let Some(number) = table.find(name) {
-        note_main_ports(modules[number].ports.items(), best);
+        note_main_ports(alloc, modules[number].ports.items(), best);
     }
 }
 
@@ -174,7 +180,7 @@ fn first_break(alloc: Global, circuit: &Circuit) -> Result<Option<Break>, Memory
     note_missing_main(circuit, &mut best);
     let table = name_modules(alloc, modules, &mut best)?;
     note_all_ports(alloc, modules, &mut best)?;
-    note_ports_of_main(circuit.name.bytes(), modules, &table, &mut best);
+    note_ports_of_main(alloc, circuit.name.bytes(), modules, &table, &mut best);
     note_all_statements(alloc, modules, &table, &mut best)?;
     note_cycles(alloc, modules, &table, &mut best)?;
     let found = best.found();
@@ -184,10 +190,10 @@ fn first_break(alloc: Global, circuit: &Circuit) -> Result<Option<Break>, Memory
 
 /// Checks a circuit against the rules. It is given back as it is where it keeps them; else the least
 /// line that breaks one is told, with the first rule that this line breaks. `CheckFault::Memory`
-/// says that there wasn't enough memory. The time is linear in the circuit's size, times the depth of its
-/// types, but for these: a comparison of two types of different shapes takes time linear in the size of
-/// both, and instances on cycles of modules may take a search each. A statement behind a line that is
-/// known to break a rule is passed over, but for a node's value.
+/// says that there wasn't enough memory. The time is linear in the circuit's size, times the depth to
+/// which its bundles are nested; where there isn't enough memory for a table of a bundle's names, it may
+/// be quadratic in the number of these. A statement behind a line that is known to break a rule is
+/// passed over, but for what a node's value stands for.
 pub fn check(alloc: Global, circuit: Circuit) -> Result<Checked, CheckFault>
     ensures kept { IfOk result (λ c. c ≡ circuit) }
     ensures rule { IfOk result (λ c. circuit_rule circuit ≡ None) }

@@ -69,9 +69,9 @@ fn is_first(table: &NameTable, name: &[u8], place: usize) -> bool
     }
 }
 
-/// Takes note of each instance that lies on a cycle of modules that contain each other. Where none
-/// does, the time is linear in the number of modules and instances; else a search is made for each
-/// instance between two cycles that stands in front of the first on one.
+/// Takes note of each instance that lies on a cycle of modules that contain each other. The time is
+/// linear in the number of modules and instances: no way is searched for but from the first instance
+/// that lies on a cycle.
 pub fn note_cycles(
     alloc: Global,
     modules: &[Module],

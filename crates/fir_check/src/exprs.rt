@@ -2,7 +2,7 @@
 //!
 //! One pass answers for the three rules that speak of levels of expressions. Recursion goes along the
 //! nesting of an expression; the operands of an operation are judged by a loop.
-ghost use Rattle.std.specs.Prelude.{◌≡◌, ◌||◌, if◌then◌else◌, false, is_none, option_map, option_and_then};
+ghost use Rattle.std.specs.Prelude.{◌≡◌, ◌||◌, if◌then◌else◌, Bool, false, is_none, option_map, option_and_then};
 ghost use Rattle.tb_base.specs.Row.{row_signed, signs_fit};
 ghost use Rattle.fir_check.specs.Scopes.{field_thing, element_thing, visible, meaning_of, somewhere};
 ghost use Rattle.fir_check.specs.Rules.{fails, lacks_field, has_element, wrong_index, unknown_level, wrong_level, clock_level};
@@ -36,33 +36,57 @@ pub struct Judgement {
 }
 
 /// Judges an expression where a statement stands. The time is linear in the size of the expression,
-/// but for the look-ups of names and the comparisons of the branches of a mux.
+/// but for the look-ups of names, and for one comparison of two different types.
 pub fn judge(alloc: Global, types: &TypeTable, scope: &Scope, expr: &Expr) -> Judgement
     ensures meaning { option_map (meant types.now) result.meaning ≡ meaning_of (seen types.now scope.now) expr.now }
     ensures unknown { result.unknown ≡ somewhere unknown_level (seen types.now scope.now) expr.now }
     ensures wrong { result.wrong ≡ somewhere wrong_level (seen types.now scope.now) expr.now }
     ensures clock { result.clock ≡ somewhere clock_level (seen types.now scope.now) expr.now }
 {
-    judge_expr(alloc, types, scope, expr)
+    judge_expr(alloc, types, scope, expr, false)
+}
+
+/// Judges an expression in whose statement something is of the wrong kind already, if `wrong` says so:
+/// then no types are compared, and the time is linear in the size of the expression, but for the
+/// look-ups of names.
+pub fn judge_behind(
+    alloc: Global,
+    types: &TypeTable,
+    scope: &Scope,
+    expr: &Expr,
+    wrong: bool,
+) -> Judgement
+    ensures meaning { option_map (meant types.now) result.meaning ≡ meaning_of (seen types.now scope.now) expr.now }
+    ensures unknown { result.unknown ≡ somewhere unknown_level (seen types.now scope.now) expr.now }
+    ensures wrong { result.wrong ≡ somewhere wrong_level (seen types.now scope.now) expr.now || wrong }
+    ensures clock { result.clock ≡ somewhere clock_level (seen types.now scope.now) expr.now }
+{
+    judge_expr(alloc, types, scope, expr, wrong)
 }
 
 #[cycle(judge)]
-fn judge_expr(alloc: Global, types: &TypeTable, scope: &Scope, expr: &Expr) -> Judgement
-    ensures { Judges types.now (seen types.now scope.now) expr.now result }
+fn judge_expr(
+    alloc: Global,
+    types: &TypeTable,
+    scope: &Scope,
+    expr: &Expr,
+    wrong: bool,
+) -> Judgement
+    ensures { Judges types.now (seen types.now scope.now) wrong expr.now result }
 {
     match expr {
-        Expr::Ident(name) => judge_name(types, scope, name.bytes()),
+        Expr::Ident(name) => judge_name(types, scope, name.bytes(), wrong),
         Expr::Part(of, name) => {
-            let of = judge_expr(alloc, types, scope, of.get());
+            let of = judge_expr(alloc, types, scope, of.get(), wrong);
             judge_part(types, of, name.bytes())
         }
         Expr::At(of, at) => {
-            let of = judge_expr(alloc, types, scope, of.get());
+            let of = judge_expr(alloc, types, scope, of.get(), wrong);
             judge_at(types, of, *at)
         }
         Expr::Index(of, at) => {
-            let of = judge_expr(alloc, types, scope, of.get());
-            let at = judge_expr(alloc, types, scope, at.get());
+            let of = judge_expr(alloc, types, scope, of.get(), wrong);
+            let at = judge_expr(alloc, types, scope, at.get(), of.wrong);
             judge_index(types, of, at)
         }
         Expr::Lit {
@@ -70,42 +94,43 @@ fn judge_expr(alloc: Global, types: &TypeTable, scope: &Scope, expr: &Expr) -> J
             width: _,
             negative: _,
             magnitude: _,
-        } => unbroken(Some(Thing::new(types.of_sign(*signed), Flow::Fixed))),
+        } => unbroken(Some(Thing::new(types.of_sign(*signed), Flow::Fixed)), wrong),
         Expr::Apply { op, args, nums: _ } => {
-            let operands = judge_operands(alloc, types, scope, args.as_slice());
+            let operands = judge_operands(alloc, types, scope, args.as_slice(), wrong);
             judge_apply(alloc, types, *op, operands)
         }
     }
 }
 
-fn unbroken(meaning: Option<Thing>) -> Judgement
+/// What no level of is broken, where this says whether something in front of it is of the wrong kind.
+fn unbroken(meaning: Option<Thing>, wrong: bool) -> Judgement
     ensures meaning { result.meaning ≡ meaning }
     ensures unknown { result.unknown ≡ false }
-    ensures wrong { result.wrong ≡ false }
+    ensures wrong { result.wrong ≡ wrong }
     ensures clock { result.clock ≡ false }
 {
     Judgement {
         meaning,
         unknown: false,
-        wrong: false,
+        wrong,
         clock: false,
     }
 }
 
-fn judge_name(types: &TypeTable, scope: &Scope, name: &[u8]) -> Judgement
+fn judge_name(types: &TypeTable, scope: &Scope, name: &[u8], wrong: bool) -> Judgement
     ensures meaning { meaning_seen types.now result ≡ option_and_then (λ k. k.meaning) (visible name.now (seen types.now scope.now)) }
     ensures unknown { result.unknown ≡ is_none (visible name.now (seen types.now scope.now)) }
-    ensures wrong { result.wrong ≡ false }
+    ensures wrong { result.wrong ≡ wrong }
     ensures clock { result.clock ≡ false }
 {
     match scope.visible(name) {
         None => Judgement {
             meaning: None,
             unknown: true,
-            wrong: false,
+            wrong,
             clock: false,
         },
-        Some(meaning) => unbroken(meaning),
+        Some(meaning) => unbroken(meaning, wrong),
     }
 }
 
@@ -154,17 +179,17 @@ fn judge_at(types: &TypeTable, of: Judgement, at: u128) -> Judgement
     }
 }
 
+/// An index, where `at` was judged behind `of`.
 fn judge_index(types: &TypeTable, of: Judgement, at: Judgement) -> Judgement
     ensures meaning { meaning_seen types.now result ≡ option_and_then element_thing (meaning_seen types.now of) }
     ensures unknown { result.unknown ≡ of.unknown || at.unknown }
-    ensures wrong { result.wrong ≡ wrong_index (meaning_seen types.now of) (meaning_seen types.now at) || (of.wrong || at.wrong) }
+    ensures wrong { result.wrong ≡ wrong_index (meaning_seen types.now of) (meaning_seen types.now at) || at.wrong }
     ensures clock { result.clock ≡ of.clock || at.clock }
 {
     Judgement {
         meaning: element(types, of.meaning),
         unknown: of.unknown || at.unknown,
-        wrong: (fails_vector(types, of.meaning) || fails_uint(types, at.meaning))
-            || (of.wrong || at.wrong),
+        wrong: (fails_vector(types, of.meaning) || fails_uint(types, at.meaning)) || at.wrong,
         clock: of.clock || at.clock,
     }
 }
@@ -212,8 +237,14 @@ fn chosen(is_here: bool, here: Option<Thing>, there: Option<Thing>) -> Option<Th
 }
 
 #[cycle(judge)]
-fn judge_operands(alloc: Global, types: &TypeTable, scope: &Scope, args: &[Expr]) -> Operands
-    ensures { Gathers types.now (seen types.now scope.now) args.now result }
+fn judge_operands(
+    alloc: Global,
+    types: &TypeTable,
+    scope: &Scope,
+    args: &[Expr],
+    wrong: bool,
+) -> Operands
+    ensures { Gathers types.now (seen types.now scope.now) wrong args.now result }
 {
     let mut operands = Operands {
         first: None,
@@ -223,12 +254,12 @@ fn judge_operands(alloc: Global, types: &TypeTable, scope: &Scope, args: &[Expr]
         unfit: false,
         clocked: false,
         unknown: false,
-        wrong: false,
+        wrong,
         clock: false,
     };
     let mut k = 0;
     while k < args.len() {
-        let next = judge_expr(alloc, types, scope, &args[k]);
+        let next = judge_expr(alloc, types, scope, &args[k], operands.wrong);
         operands = operands.with(types, k, next);
         k += 1;
     }
@@ -303,16 +334,17 @@ fn has_wrong_operands(alloc: Global, types: &TypeTable, op: Op, operands: Operan
     }
 }
 
+/// An operation. Types are compared only where no operand is of the wrong kind.
 fn judge_apply(alloc: Global, types: &TypeTable, op: Op, operands: Operands) -> Judgement
     ensures meaning { meaning_seen types.now result ≡ applied_given op (option_map (meant types.now) operands.first) (option_map (meant types.now) operands.second) }
     ensures unknown { result.unknown ≡ operands.unknown }
-    ensures wrong { result.wrong ≡ wrong_given types.now op operands || operands.wrong }
+    ensures wrong { result.wrong ≡ operands.wrong || wrong_given types.now op operands }
     ensures clock { result.clock ≡ clock_given op operands.clocked || operands.clock }
 {
     Judgement {
         meaning: applied(types, op, operands),
         unknown: operands.unknown,
-        wrong: has_wrong_operands(alloc, types, op, operands) || operands.wrong,
+        wrong: operands.wrong || has_wrong_operands(alloc, types, op, operands),
         clock: (op == Op::Mux && operands.clocked) || operands.clock,
     }
 }

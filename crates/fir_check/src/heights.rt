@@ -38,79 +38,105 @@ fn users_of(alloc: Global, kids: &[Vec<Instance>]) -> Result<Vec<Vec<usize>>, Me
     Ok(all)
 }
 
-/// How many each list has.
-fn counts_of(alloc: Global, lists: &[Vec<usize>]) -> Result<Vec<usize>, Memory> {
-    let mut counts = Vec::new(alloc);
-    for list in lists {
-        counts.push(list.len())?;
-    }
-    Ok(counts)
+/// A step that a walk has still to make.
+#[derive(Clone, Copy, Debug)]
+enum Step {
+    /// To enter a module, unless that was done.
+    Enter(usize),
+    /// To leave a module, since all that is reached from it was entered.
+    Leave(usize),
 }
 
-/// Lowers the counts of these modules. A module whose count is 0 then is ready.
-fn lower_counts(
-    modules: &[usize],
-    counts: &mut [usize],
-    ready: &mut Vec<usize>,
+/// Marks a module, and says whether it had no mark before.
+fn mark(seen: &mut [bool], at: usize) -> bool {
+    match seen.get_mut(at) {
+        None => false,
+        Some(mark) => {
+            let is_new = !*mark;
+            *mark = true;
+            is_new
+        }
+    }
+}
+
+/// Enters a module, if it has no mark: it is left behind the modules of its list.
+fn enter(
+    lists: &[Vec<usize>],
+    at: usize,
+    seen: &mut [bool],
+    steps: &mut Vec<Step>,
 ) -> Result<(), Memory> {
-    for at in modules {
-        if let Some(count) = counts.get_mut(*at) {
-            *count = count.saturating_sub(1);
-            if *count == 0 {
-                ready.push(*at)?;
-            }
+    if !mark(seen, at) {
+        return Ok(());
+    }
+    steps.push(Step::Leave(at))?;
+    if let Some(list) = lists.get(at) {
+        for next in list {
+            steps.push(Step::Enter(*next))?;
         }
     }
     Ok(())
 }
 
-/// In each turn a module goes of whose list all modules have gone; `lists` has their numbers, and
-/// `back` the modules in whose list each stands. The turns, or the number of modules for those that
-/// never go. The time is linear in the lists.
-fn turns_of(
+/// Walks along the lists from a module, deep first, over modules without a mark, and gives them in the
+/// order in which they are left. Each gets its mark. The time is linear in their lists.
+fn walk_from(
     alloc: Global,
     lists: &[Vec<usize>],
-    back: &[Vec<usize>],
+    start: usize,
+    seen: &mut [bool],
 ) -> Result<Vec<usize>, Memory> {
-    let never = lists.len();
-    let mut turns = vec![in alloc; never; never]?;
-    let mut counts = counts_of(alloc, lists)?;
-    let mut ready = Vec::new(alloc);
-    for (at, count) in counts.iter().enumerate() {
-        if *count == 0 {
-            ready.push(at)?;
+    let mut left = Vec::new(alloc);
+    let mut steps = Vec::new(alloc);
+    steps.push(Step::Enter(start))?;
+    for _ in 0..u64::MAX {
+        match steps.pop() {
+            None => break,
+            Some(Step::Enter(at)) => enter(lists, at, seen, &mut steps)?,
+            Some(Step::Leave(at)) => left.push(at)?,
         }
     }
-    for turn in 0..never {
-        let Some(here) = ready.pop() else {
-            break;
-        };
-        if let Some(slot) = turns.get_mut(here) {
-            *slot = turn;
-        }
-        if let Some(modules) = back.get(here) {
-            lower_counts(modules, &mut counts, &mut ready)?;
-        }
-    }
-    Ok(turns)
+    Ok(left)
 }
 
-/// Heights. A module from which no way leads to a cycle is above the modules of its instances, and a
-/// module to which no way leads from a cycle below those that have an instance of it; what stands
-/// between has one height. The time is linear in the number of modules and instances.
+/// All modules, in the order in which a walk along the lists, deep first, leaves them.
+fn walk_all(alloc: Global, lists: &[Vec<usize>]) -> Result<Vec<usize>, Memory> {
+    let mut seen = vec![in alloc; false; lists.len()]?;
+    let mut left = Vec::new(alloc);
+    for start in 0..lists.len() {
+        for at in &walk_from(alloc, lists, start, &mut seen)? {
+            left.push(*at)?;
+        }
+    }
+    Ok(left)
+}
+
+/// Gives these modules a height.
+fn raise(heights: &mut [usize], modules: &[usize], height: usize) {
+    for at in modules {
+        if let Some(own) = heights.get_mut(*at) {
+            *own = height;
+        }
+    }
+}
+
+/// Heights. Modules that contain each other have one height, and any other module is above the modules
+/// of its instances. The time is linear in the number of modules and instances.
+///
+/// The module that a walk along the instances leaves last lies below none but those on its own cycles.
+/// What is reached from it against the instances are these, so they are the highest; and so on among the
+/// others.
 pub fn heights_of(alloc: Global, kids: &[Vec<Instance>]) -> Result<Vec<usize>, Memory> {
     let targets = targets_of(alloc, kids)?;
     let users = users_of(alloc, kids)?;
-    let from_below = turns_of(alloc, &targets, &users)?;
-    let from_above = turns_of(alloc, &users, &targets)?;
-    let never = kids.len();
-    let mut heights = Vec::new(alloc);
-    for (below, above) in from_below.iter().zip(from_above.iter()) {
-        if *below < never {
-            heights.push(*below)?;
-        } else {
-            heights.push(never.saturating_add(never.saturating_sub(*above)))?;
-        }
+    let left = walk_all(alloc, &targets)?;
+    let mut seen = vec![in alloc; false; kids.len()]?;
+    let mut heights = vec![in alloc; 0; kids.len()]?;
+    let mut height = kids.len();
+    for start in left.iter().rev() {
+        let group = walk_from(alloc, &users, *start, &mut seen)?;
+        raise(&mut heights, &group, height);
+        height = height.saturating_sub(1);
     }
     Ok(heights)
 }

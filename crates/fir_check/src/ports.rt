@@ -22,10 +22,10 @@ pub fn is_clock_input(port: &Port) -> bool
 }
 
 /// A Clock elsewhere than as the whole type of an input.
-fn misplaces_clock(port: &Port) -> bool
+fn misplaces_clock(alloc: Global, port: &Port) -> bool
     ensures { result ≡ misplaces_clock port.now }
 {
-    holds_clock(&port.ty) && !is_clock_input(port)
+    holds_clock(alloc, &port.ty) && !is_clock_input(port)
 }
 
 /// Takes note of each port whose name an earlier one has.
@@ -52,11 +52,11 @@ fn note_double_fields(alloc: Global, ports: &[Port], best: &mut Best) -> Result<
 }
 
 /// Takes note of each port with a Clock that isn't the whole type of an input.
-fn note_clocks(ports: &[Port], best: &mut Best)
+fn note_clocks(alloc: Global, ports: &[Port], best: &mut Best)
     ensures { best.new ≡ least best.old (map (place Rule.ClockUse) (port_lines misplaces_clock ports.now)) }
 {
     for port in ports {
-        best.note_if(misplaces_clock(port), Rule::ClockUse, port.line);
+        best.note_if(misplaces_clock(alloc, port), Rule::ClockUse, port.line);
     }
 }
 
@@ -66,16 +66,16 @@ pub fn note_ports(alloc: Global, ports: &[Port], best: &mut Best) -> Result<(), 
 {
     note_double_ports(alloc, ports, best)?;
     note_double_fields(alloc, ports, best)?;
-    note_clocks(ports, best);
+    note_clocks(alloc, ports, best);
     Ok(())
 }
 
 /// Takes note of each port with a part that is an input without width.
-fn note_unsized(ports: &[Port], best: &mut Best)
+fn note_unsized(alloc: Global, ports: &[Port], best: &mut Best)
     ensures { best.new ≡ least best.old (map (place Rule.WrongKind) (port_lines has_unsized_input ports.now)) }
 {
     for port in ports {
-        best.note_if(has_unsized_input(port), Rule::WrongKind, port.line);
+        best.note_if(has_unsized_input(alloc, port), Rule::WrongKind, port.line);
     }
 }
 
@@ -92,9 +92,9 @@ fn note_second_clocks(ports: &[Port], best: &mut Best)
 }
 
 /// Takes note of the ports that break a rule on the main module alone.
-pub fn note_main_ports(ports: &[Port], best: &mut Best)
+pub fn note_main_ports(alloc: Global, ports: &[Port], best: &mut Best)
     ensures { best.new ≡ lowered best.old (main_breaks ports.now) }
 {
-    note_unsized(ports, best);
+    note_unsized(alloc, ports, best);
     note_second_clocks(ports, best);
 }

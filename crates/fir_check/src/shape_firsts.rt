@@ -21,7 +21,7 @@ enum Shape {
     Clock,
     /// The number of the element's shape, and the length.
     Vector(usize, u32),
-    /// The fields in the order of their names' numbers.
+    /// The fields that the names mean, in the order of the names' numbers.
     Bundle(Vec<Part>),
 }
 
@@ -29,6 +29,8 @@ enum Shape {
 #[derive(Drop)]
 pub struct ShapeFirsts {
     names: IndexSet<Vec<u8>>,
+    /// For each name the number of the last bundle that has it.
+    marks: Vec<usize>,
     firsts: IndexMap<Shape, usize>,
 }
 
@@ -37,6 +39,7 @@ impl ShapeFirsts {
     pub fn new(alloc: Global) -> ShapeFirsts {
         ShapeFirsts {
             names: IndexSet::new(alloc),
+            marks: Vec::new(alloc),
             firsts: IndexMap::new(alloc),
         }
     }
@@ -48,25 +51,42 @@ impl ShapeFirsts {
         }
         let own = Vec::from_slice(alloc, name)?;
         let (number, _) = self.names.insert_full(own)?;
+        self.marks.push(usize::MAX)?;
         Ok(number)
     }
 
-    /// The fields of a bundle, where these are the shapes of their types.
+    /// Whether a bundle has this name for the first time; the bundle has the number `bundle`.
+    fn is_new(&mut self, name: usize, bundle: usize) -> bool {
+        match self.marks.get_mut(name) {
+            None => true,
+            Some(mark) => {
+                let is_new = *mark != bundle;
+                *mark = bundle;
+                is_new
+            }
+        }
+    }
+
+    /// The fields of a bundle that its names mean, where these are the shapes of the types of all; the
+    /// bundle has the number `bundle`.
     fn parts(
         &mut self,
         alloc: Global,
         fields: &[Field],
         shapes: &[usize],
+        bundle: usize,
     ) -> Result<Vec<Part>, Memory> {
         let mut parts = Vec::new(alloc);
         for (field, shape) in fields.iter().zip(shapes) {
             let name = self.name(alloc, field.name.bytes())?;
-            let part = Part {
-                name,
-                flip: field.flip,
-                shape: *shape,
-            };
-            parts.push(part)?;
+            if self.is_new(name, bundle) {
+                let part = Part {
+                    name,
+                    flip: field.flip,
+                    shape: *shape,
+                };
+                parts.push(part)?;
+            }
         }
         parts.sort()?;
         Ok(parts)
@@ -101,7 +121,7 @@ impl ShapeFirsts {
                 self.first(Shape::Vector(of, *len), number)
             }
             Ty::Bundle(fields) => {
-                let parts = self.parts(alloc, fields.as_slice(), shapes)?;
+                let parts = self.parts(alloc, fields.as_slice(), shapes, number)?;
                 self.first(Shape::Bundle(parts), number)
             }
         }

@@ -15,7 +15,7 @@ ghost use Rattle.fir_check.specs.Numbers.{ComesNext, own_types};
 ghost use Rattle.fir_check.specs.Walking.{head_of, names_behind, Told, ResetTold, ArgsTold, with_arg};
 
 use crate::broken::Broken;
-use crate::exprs::{Judgement, judge};
+use crate::exprs::{Judgement, judge, judge_behind};
 use crate::judged::{Args, Resets};
 use crate::scope::Scope;
 use crate::sinks::PortSinks;
@@ -332,7 +332,7 @@ fn tell_args(
     };
     let mut k = 0;
     while k < args.len() {
-        let next = judge(alloc, around.types, scope, &args[k]);
+        let next = judge_behind(alloc, around.types, scope, &args[k], told.wrong);
         told = with_arg(around.types, told, k, before, next);
         k += 1;
     }
@@ -462,7 +462,7 @@ fn declare_free(
     scope.add(alloc, name, Some(Thing::new(number, Flow::Free)))
 }
 
-/// Adds a node.
+/// Adds a node. What its value stands for is asked for alone, so that no types are compared.
 fn declare_node(
     alloc: Global,
     around: Surroundings,
@@ -472,7 +472,7 @@ fn declare_node(
 ) -> Result<(), Memory>
     ensures { OnOk result (seen around.entry.types.now scope.new ≡ names_behind around.entry.modules.now (seen around.entry.types.now scope.old) (Node 0 name.now value.now)) }
 {
-    let value = judge(alloc, around.types, scope, value);
+    let value = judge_behind(alloc, around.types, scope, value, true);
     scope.add(alloc, name, node_thing(value.meaning))
 }
 

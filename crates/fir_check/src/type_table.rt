@@ -2,7 +2,7 @@
 //!
 //! Each type has a number there, and so has each type in it. What the rules ask of a type is found
 //! out once, when it is added.
-ghost use Rattle.std.specs.Prelude.{◌≡◌, ◌<◌, ◌++◌, ◌∷◌, [], true, All, List, map, length, bytes_eq, option_map, OnOk, IfOk, IfSome};
+ghost use Rattle.std.specs.Prelude.{◌≡◌, ◌<◌, ◌++◌, ◌∷◌, ◌&&◌, ◌==◌, [], not, true, All, List, map, length, bytes_eq, option_map, OnOk, IfOk, IfSome};
 ghost use Rattle.std.specs.List.{position_from};
 ghost use Rattle.fir_ast.specs.declared.tree.Ty.{Ty};
 ghost use Rattle.fir_check.specs.Types.{field_named, vector_of, has_flip, holds_clock, same_shape};
@@ -81,13 +81,21 @@ fn row_of<'a>(alloc: Global, ty: &'a Ty, parts: Vec<usize>, shape: usize) -> Typ
 {
     TypeRow {
         ty,
-        flips: has_flip(ty),
-        clocks: holds_clock(ty),
-        against: has_against_leaf(ty),
+        flips: has_flip(alloc, ty),
+        clocks: holds_clock(alloc, ty),
+        against: has_against_leaf(alloc, ty),
         fields: fields_table(alloc, ty),
         parts,
         shape,
     }
+}
+
+/// Whether a ground part of a vector goes against it, where `against` says so of its elements: one of no
+/// elements has no part.
+fn vector_goes_against(len: u32, against: bool) -> bool
+    ensures { result ≡ not (len == 0) && against }
+{
+    len != 0 && against
 }
 
 impl<'a> TypeTable<'a> {
@@ -207,10 +215,28 @@ impl<'a> TypeTable<'a> {
         Ok(proposed)
     }
 
+    /// Whether a type, whose parts have these numbers, has the shape of that of a number, if it says so.
+    /// Elements of vectors are compared by their numbers.
+    fn is_like(&self, alloc: Global, ty: &Ty, parts: &[usize], number: usize) -> bool
+        requires { map (type_at self.now) parts.now ≡ parts_of ty.now }
+        ensures { result ≡ true → same_shape ty.now (type_at self.now number) ≡ true }
+    {
+        match ty {
+            Ty::Vector(_, len) => match self.element(number) {
+                None => false,
+                Some((of, other_len)) => {
+                    *len == other_len && self.same_shape(alloc, parts[0], of)
+                }
+            },
+            _ => same_shape(alloc, ty, self.ty(number)),
+        }
+    }
+
     /// The proposed number, if its type has the shape of this one; else that of this one, once it is
-    /// added. The time is linear in the size of both types.
+    /// added. The parts of this one have these numbers. The time is linear in the size of both types.
     #[tactic(auto, using(crate::proofs::TypeRows::confirmed_old, crate::proofs::TypeRows::confirmed_new, crate::proofs::TypeRows::low_last))]
-    fn confirmed(&self, alloc: Global, ty: &Ty, proposed: usize) -> usize
+    fn confirmed(&self, alloc: Global, ty: &Ty, parts: &[usize], proposed: usize) -> usize
+        requires { map (type_at self.now) parts.now ≡ parts_of ty.now }
         ensures low { result < length (self.now ++ ty.now ∷ []) }
         ensures like { same_shape ty.now (type_at (self.now ++ ty.now ∷ []) result) ≡ true }
     {
@@ -218,11 +244,34 @@ impl<'a> TypeTable<'a> {
         if proposed >= count {
             return count;
         }
-        let first = self.ty(proposed);
-        if same_shape(alloc, ty, first) {
+        if self.is_like(alloc, ty, parts, proposed) {
             return proposed;
         }
         count
+    }
+
+    /// The row of a type, whose parts have these numbers, and where `shape` is that of a type of its shape.
+    /// What is known of a vector is known of its elements.
+    fn row_for(&self, alloc: Global, ty: &'a Ty, parts: Vec<usize>, shape: usize) -> TypeRow<'a>
+        requires { map (type_at self.now) parts.items ≡ parts_of ty.now }
+        ensures ty { result.ty.now ≡ ty.now }
+        ensures right { (types : List Ty) → All (λ n. n < length types) parts.items → map (type_at types) parts.items ≡ parts_of ty.now → shape < length types → same_shape ty.now (type_at types shape) ≡ true → IsRow types result }
+    {
+        match ty {
+            Ty::Vector(_, len) => {
+                let part = parts[0];
+                TypeRow {
+                    ty,
+                    flips: self.flips(part),
+                    clocks: self.holds_clock(part),
+                    against: vector_goes_against(*len, self.goes_against(part)),
+                    fields: None,
+                    parts,
+                    shape,
+                }
+            }
+            _ => row_of(alloc, ty, parts, shape),
+        }
     }
 
     /// Adds a type, whose parts have these numbers.
@@ -233,8 +282,8 @@ impl<'a> TypeTable<'a> {
         ensures number { IfOk result (λ n. n ≡ length self.old) }
     {
         let proposed = self.propose(alloc, ty, parts.as_slice())?;
-        let shape = self.confirmed(alloc, ty, proposed);
-        let row = row_of(alloc, ty, parts, shape);
+        let shape = self.confirmed(alloc, ty, parts.as_slice(), proposed);
+        let row = self.row_for(alloc, ty, parts, shape);
         let number = self.add_row(row)?;
         Ok(number)
     }
@@ -275,8 +324,8 @@ fn first_place(name: &[u8], fields: &[Field]) -> Option<usize>
     None
 }
 
-/// Adds a type and the types in it. The time is linear in the type's size, times the depth of its
-/// nesting.
+/// Adds a type and the types in it. The time is linear in the type's size, times the depth to which
+/// bundles are nested in it.
 #[cycle(add_type)]
 pub fn add_type<'a>(alloc: Global, ty: &'a Ty, table: &mut TypeTable<'a>) -> Result<usize, Memory>
     ensures { IfOk result (λ n. Added table.old table.new (ty.now ∷ []) (n ∷ [])) }

@@ -1,13 +1,15 @@
 //! Types as the rules see them.
 //!
 //! A field whose name an earlier field of its bundle has is passed over: the name means the first.
-//! Every function here goes along the nesting of the type, and takes no memory but where it says so.
-ghost use Rattle.std.specs.Prelude.{◌≡◌, ◌&&◌, true, not, option_map, map, IfOk, IfSome};
+//! Every function here goes along the nesting of the type. Where many fields' names have to be looked
+//! up, a table of them is made; where there isn't enough memory for it, the fields are looked through
+//! each time, and the time is quadratic in their number.
+ghost use Rattle.std.specs.Prelude.{◌≡◌, ◌≤◌, ◌&&◌, true, not, option_map, map, take, length, IfOk, IfSome};
 ghost use Rattle.std.specs.List.{list_any};
 ghost use Rattle.fir_check.specs.Names.{is_among};
 ghost use Rattle.fir_check.specs.Types.{is_ground, is_clock, is_signed, is_uint, is_unsigned, is_bundle, vector_of, repeats_field, has_flip, holds_clock, same_shape, leaves};
 ghost use Rattle.fir_check.specs.Rules.{has_unsized_input};
-ghost use Rattle.fir_check.specs.Tables.{NamesFields};
+ghost use Rattle.fir_check.specs.Tables.{NamesFields, is_below};
 ghost use Rattle.fir_check.specs.Fields.{lent_slot, lent_pair, field_name, field_type, named_slot, first_fields, repeats_name, flips, is_wanted, has_wanted, have_matches, have_names, has_match, matches};
 
 use crate::name_table::{NameTable, table_of_fields};
@@ -117,12 +119,55 @@ fn is_new(name: &[u8], earlier: &[Field]) -> bool
     true
 }
 
-/// Whether it is so of a field of this name and of none of these earlier ones. The earlier ones are
-/// looked at only if it is so.
-fn counts(is_so: bool, name: &[u8], earlier: &[Field]) -> bool
-    ensures { result ≡ is_so && not (is_among name.now (map field_name earlier.now)) }
+/// Whether one of the first `k` fields has the name, by the table of the fields' names where there is
+/// one. The time is that of a look-up then, else linear in `k`.
+fn is_before(name: &[u8], k: usize, fields: &[Field], table: &Option<NameTable>) -> bool
+    requires place { k ≤ length fields.now }
+    requires table { IfSome table.now (NamesFields fields.now) }
+    ensures { result ≡ is_among name.now (map field_name (take k fields.now)) }
 {
-    is_so && is_new(name, earlier)
+    match table {
+        None => !is_new(name, &fields[..k]),
+        Some(table) => is_below(table.find(name), k),
+    }
+}
+
+/// Whether there is a number, and it is below this one.
+fn is_below(number: Option<usize>, end: usize) -> bool
+    ensures { result ≡ is_below end number }
+{
+    match number {
+        None => false,
+        Some(number) => number < end,
+    }
+}
+
+/// Whether it is so of a field of this name and of none of the first `k`. These are looked at only if
+/// it is so. If one has the name, a table of the fields' names is made for the next time, so that
+/// however many fields are asked for, the time is linear in their number.
+fn counts(
+    alloc: Global,
+    is_so: bool,
+    name: &[u8],
+    k: usize,
+    fields: &[Field],
+    table: &mut Option<NameTable>,
+) -> bool
+    requires place { k ≤ length fields.now }
+    requires table { IfSome table.old (NamesFields fields.now) }
+    ensures counts { result ≡ is_so && not (is_among name.now (map field_name (take k fields.now))) }
+    ensures table { IfSome table.new (NamesFields fields.now) }
+{
+    if !is_so {
+        return false;
+    }
+    if !is_before(name, k, fields, table) {
+        return true;
+    }
+    if table.is_none() {
+        *table = table_of_fields(alloc, fields);
+    }
+    false
 }
 
 /// Whether a bundle in the type has two fields of one name. Takes time and memory linear in the size
@@ -173,35 +218,36 @@ fn repeats_inside(alloc: Global, fields: &[Field]) -> Result<bool, Memory>
     Ok(false)
 }
 
-/// Whether a field in the type is flipped. The time is linear in the size of a type that repeats no
-/// field.
+/// Whether a field in the type is flipped. The time is linear in the size of the type.
 #[cycle(has_flip)]
-pub fn has_flip(ty: &Ty) -> bool
+pub fn has_flip(alloc: Global, ty: &Ty) -> bool
     ensures { result ≡ has_flip ty.now }
 {
     match ty {
-        Ty::Bundle(fields) => flips_inside(fields.as_slice()),
-        Ty::Vector(of, _) => has_flip(of.get()),
+        Ty::Bundle(fields) => flips_inside(alloc, fields.as_slice()),
+        Ty::Vector(of, _) => has_flip(alloc, of.get()),
         _ => false,
     }
 }
 
 /// Whether the field is flipped or has a flip in it.
 #[cycle(has_flip)]
-fn flips(field: &Field) -> bool
+fn flips(alloc: Global, field: &Field) -> bool
     ensures { result ≡ flips field.now }
 {
-    field.flip || has_flip(&field.ty)
+    field.flip || has_flip(alloc, &field.ty)
 }
 
 #[cycle(has_flip)]
-fn flips_inside(fields: &[Field]) -> bool
+fn flips_inside(alloc: Global, fields: &[Field]) -> bool
     ensures { result ≡ list_any flips (first_fields fields.now) }
 {
+    let mut table = None;
     let mut k = 0;
     while k < fields.len() {
         let field = &fields[k];
-        if counts(flips(field), field.name.bytes(), &fields[..k]) {
+        let is_here = flips(alloc, field);
+        if counts(alloc, is_here, field.name.bytes(), k, fields, &mut table) {
             return true;
         }
         k += 1;
@@ -209,28 +255,29 @@ fn flips_inside(fields: &[Field]) -> bool
     false
 }
 
-/// Whether the type is a Clock or has one in it. The time is linear in the size of a type that
-/// repeats no field.
+/// Whether the type is a Clock or has one in it. The time is linear in the size of the type.
 #[cycle(holds_clock)]
-pub fn holds_clock(ty: &Ty) -> bool
+pub fn holds_clock(alloc: Global, ty: &Ty) -> bool
     ensures { result ≡ holds_clock ty.now }
 {
     match ty {
         Ty::Clock => true,
-        Ty::Bundle(fields) => clocks_inside(fields.as_slice()),
-        Ty::Vector(of, _) => holds_clock(of.get()),
+        Ty::Bundle(fields) => clocks_inside(alloc, fields.as_slice()),
+        Ty::Vector(of, _) => holds_clock(alloc, of.get()),
         _ => false,
     }
 }
 
 #[cycle(holds_clock)]
-fn clocks_inside(fields: &[Field]) -> bool
+fn clocks_inside(alloc: Global, fields: &[Field]) -> bool
     ensures { result ≡ list_any (λ f. holds_clock (field_type f)) (first_fields fields.now) }
 {
+    let mut table = None;
     let mut k = 0;
     while k < fields.len() {
         let field = &fields[k];
-        if counts(holds_clock(&field.ty), field.name.bytes(), &fields[..k]) {
+        let is_here = holds_clock(alloc, &field.ty);
+        if counts(alloc, is_here, field.name.bytes(), k, fields, &mut table) {
             return true;
         }
         k += 1;
@@ -239,10 +286,10 @@ fn clocks_inside(fields: &[Field]) -> bool
 }
 
 /// Whether a ground part of the type goes against it, or with it where `turned`, flips counted; if
-/// `unsized_only`, one that is a UInt or SInt without width. The time is linear in the size of a type
-/// that repeats no field.
+/// `unsized_only`, one that is a UInt or SInt without width. The time is linear in the size of the
+/// type.
 #[cycle(has_leaf)]
-fn has_leaf(ty: &Ty, turned: bool, unsized_only: bool) -> bool
+fn has_leaf(alloc: Global, ty: &Ty, turned: bool, unsized_only: bool) -> bool
     ensures { result ≡ list_any (is_wanted turned unsized_only) (leaves ty.now) }
 {
     match ty {
@@ -250,20 +297,21 @@ fn has_leaf(ty: &Ty, turned: bool, unsized_only: bool) -> bool
         Ty::SInt(width) => turned && (!unsized_only || width.is_none()),
         Ty::Clock => turned && !unsized_only,
         Ty::Reset => turned && !unsized_only,
-        Ty::Bundle(fields) => has_leaf_inside(fields.as_slice(), turned, unsized_only),
-        Ty::Vector(of, len) => *len != 0 && has_leaf(of.get(), turned, unsized_only),
+        Ty::Bundle(fields) => has_leaf_inside(alloc, fields.as_slice(), turned, unsized_only),
+        Ty::Vector(of, len) => *len != 0 && has_leaf(alloc, of.get(), turned, unsized_only),
     }
 }
 
 #[cycle(has_leaf)]
-fn has_leaf_inside(fields: &[Field], turned: bool, unsized_only: bool) -> bool
+fn has_leaf_inside(alloc: Global, fields: &[Field], turned: bool, unsized_only: bool) -> bool
     ensures { result ≡ list_any (has_wanted turned unsized_only) (first_fields fields.now) }
 {
+    let mut table = None;
     let mut k = 0;
     while k < fields.len() {
         let field = &fields[k];
-        let is_here = has_leaf(&field.ty, turned != field.flip, unsized_only);
-        if counts(is_here, field.name.bytes(), &fields[..k]) {
+        let is_here = has_leaf(alloc, &field.ty, turned != field.flip, unsized_only);
+        if counts(alloc, is_here, field.name.bytes(), k, fields, &mut table) {
             return true;
         }
         k += 1;
@@ -272,24 +320,24 @@ fn has_leaf_inside(fields: &[Field], turned: bool, unsized_only: bool) -> bool
 }
 
 /// Whether a ground part of the type goes against it, flips counted. The time is linear in the size
-/// of a type that repeats no field.
-pub fn has_against_leaf(ty: &Ty) -> bool
+/// of the type.
+pub fn has_against_leaf(alloc: Global, ty: &Ty) -> bool
     ensures { result ≡ list_any (λ l. l.against) (leaves ty.now) }
 {
-    has_leaf(ty, false, false)
+    has_leaf(alloc, ty, false, false)
 }
 
 /// Whether a ground part of the port is an input, flips counted, and is a UInt or SInt without width.
-/// The time is linear in the size of a type that repeats no field.
-pub fn has_unsized_input(port: &Port) -> bool
+/// The time is linear in the size of the type.
+pub fn has_unsized_input(alloc: Global, port: &Port) -> bool
     ensures { result ≡ has_unsized_input port.now }
 {
-    has_leaf(&port.ty, !port.output, true)
+    has_leaf(alloc, &port.ty, !port.output, true)
 }
 
-/// Whether two types have one shape. The time is linear in the size of the types where bundles repeat
-/// no field; where many fields stand in another order, tables of their names are made. Where there
-/// isn't enough memory for these, each field is looked for among all of the other bundle.
+/// Whether two types have one shape. The time is linear in the size of the types; where many fields
+/// stand in another order, or a name is repeated, tables of the names are made. Where there isn't
+/// enough memory for these, each field is looked for among all of its bundle.
 #[cycle(same_shape)]
 pub fn same_shape(alloc: Global, ty: &Ty, other: &Ty) -> bool
     ensures { result ≡ same_shape ty.now other.now }
@@ -321,7 +369,8 @@ fn same_bundle(alloc: Global, fields: &[Field], others: &[Field]) -> bool
     }
     let own_table = table_of_fields(alloc, fields);
     let table = table_of_fields(alloc, others);
-    same_by_name(alloc, fields, others, &table) && names_of_all(fields, others, &own_table)
+    same_by_name(alloc, fields, others, &own_table, &table)
+        && names_of_all(fields, others, &own_table)
 }
 
 /// Whether the bundles have the same names in the same order.
@@ -363,11 +412,12 @@ fn same_in_order(alloc: Global, fields: &[Field], others: &[Field]) -> bool
     requires { map field_name fields.now ≡ map field_name others.now }
     ensures { result ≡ have_matches fields.now others.now }
 {
+    let mut table = None;
     let mut k = 0;
     while k < fields.len() {
         let field = &fields[k];
         let differs = !same_field(alloc, field, &others[k]);
-        if counts(differs, field.name.bytes(), &fields[..k]) {
+        if counts(alloc, differs, field.name.bytes(), k, fields, &mut table) {
             return false;
         }
         k += 1;
@@ -375,27 +425,46 @@ fn same_in_order(alloc: Global, fields: &[Field], others: &[Field]) -> bool
     true
 }
 
-/// Whether each field matches that of its name among the others, of which there is a table.
+/// Whether each field matches that of its name among the others. There are tables of the fields' own
+/// names and of the others'.
 #[cycle(same_shape)]
 fn same_by_name(
     alloc: Global,
     fields: &[Field],
     others: &[Field],
+    own_table: &Option<NameTable>,
     table: &Option<NameTable>,
 ) -> bool
-    requires { IfSome table.now (NamesFields others.now) }
+    requires own { IfSome own_table.now (NamesFields fields.now) }
+    requires others { IfSome table.now (NamesFields others.now) }
     ensures { result ≡ have_matches fields.now others.now }
 {
     let mut k = 0;
     while k < fields.len() {
         let field = &fields[k];
-        let differs = !has_match(alloc, field, others, table);
-        if counts(differs, field.name.bytes(), &fields[..k]) {
+        let is_old = is_before(field.name.bytes(), k, fields, own_table);
+        if lacks_match(alloc, is_old, field, others, table) {
             return false;
         }
         k += 1;
     }
     true
+}
+
+/// Whether the field isn't passed over and none of the others matches it. One that is passed over is
+/// compared with none.
+#[cycle(same_shape)]
+fn lacks_match(
+    alloc: Global,
+    is_old: bool,
+    field: &Field,
+    others: &[Field],
+    table: &Option<NameTable>,
+) -> bool
+    requires { IfSome table.now (NamesFields others.now) }
+    ensures { result ≡ not is_old && not (has_match others.now field.now) }
+{
+    !is_old && !has_match(alloc, field, others, table)
 }
 
 #[cycle(same_shape)]

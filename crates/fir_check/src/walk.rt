@@ -145,8 +145,8 @@ fn scope_of_ports(
     Ok(scope)
 }
 
-/// Takes note of the statements of a module that break a rule. The time is linear in their size, but
-/// for the comparisons of shapes.
+/// Takes note of the statements of a module that break a rule. The time is linear in their size; in the
+/// first that breaks one, types of different shapes may be compared besides.
 pub fn note_statements(
     alloc: Global,
     around: Surroundings,

@@ -9,9 +9,8 @@ use Rattle.net_graph.specs.Reaching.{in_set, in_row_of, RightAt, Reached, itself
 use Rattle.net_core.specs.Rules.{has}
 use Rattle.net_core.specs.declared.ports.Signal.{Signal}
 use Rattle.net_graph.specs.Graphs.{reads_in, Follows, IsOrder}
-use Rattle.net_graph.specs.NetGraphs.{numbers, ReadsOver, OwnReads, some_stands_for}
+use Rattle.net_graph.specs.NetGraphs.{numbers, ReadsOver, OwnReads}
 use Rattle.net_graph.specs.Loops.{Leads, IsNamedChain}
-use Rattle.net_graph.specs.Falling.{Reads}
 use Rattle.net_core.specs.declared.tree.Net.{Net}
 use Rattle.net_core.specs.Nets.{net_reads}
 use Rattle.net_graph.specs.declared.cones.Cones.{Cones}
@@ -19,7 +18,7 @@ use Rattle.std.specs.Prelude.{◌↔◌}
 use Rattle.net_graph.proofs.HasFacts.{has_head, has_take}
 use Rattle.net_graph.specs.Uniting.{in_one_of}
 use Rattle.net_graph.proofs.SearchFacts.{before_or_past}
-use Rattle.net_graph.proofs.OwnFacts.{lt_true, lt_false, over_same, contracted_to, contracted_from, leads_map, chain_map}
+use Rattle.net_graph.proofs.OwnFacts.{lt_true, lt_false, over_same, leads_map, chain_map}
 
 -- a bit of a union
 either_bit : (m n : ℕ) → m < 2 → n < 2 → nat_eq (max m n) 1 ≡ (nat_eq m 1 || nat_eq n 1)
@@ -233,30 +232,31 @@ pub reached_leads : (reads : ℕ → ℕ → Bool) (own : ℕ) → ((c y : ℕ) 
 reached_leads reads own cond p x hp hx t = (reached_way reads own cond p hp x t).0 hx
 
 -- ---- chains
-own_to : (net : Net) (table : Cones) (x p : ℕ) → DependsOn net table x p → (owns : List (List ℕ)) → length owns ≡ table.own
-    → ((a b : ℕ) → a < table.own → reads_in owns a b ≡ some_stands_for table.lists table.own (get_or table.lists a []) b) → (a b : ℕ) → Reads owns a b → OwnReads net a b
-own_to net table x p d owns l e a b r =
-    subst (λ o. ReadsOver (net_reads net) o a b) d.of_net.own (over_same (reads_in table.lists) (net_reads net) table.own d.of_net.reads a b
-    (contracted_to table.lists owns table.own (λ c y o q. subst (λ t. y < t) (sym d.of_net.own) (d.numbered.conditions c y (subst (λ t. t ≤ c) d.of_net.own o) (sym (d.of_net.reads c y) ∙ q))) l e a b r))
+own_to : (net : Net) (table : Cones) (x p : ℕ) → DependsOn net table x p → (a b : ℕ) → ReadsOver (reads_in table.lists) table.own a b → OwnReads net a b
+own_to net table x p d a b r = subst (λ o. ReadsOver (net_reads net) o a b) d.of_net.own (over_same (reads_in table.lists) (net_reads net) table.own d.of_net.reads a b r)
 
-own_from : (net : Net) (table : Cones) (x p : ℕ) → DependsOn net table x p → (owns : List (List ℕ)) → ((a b : ℕ) → a < table.own → reads_in owns a b ≡ some_stands_for table.lists table.own (get_or table.lists a []) b)
-    → (a b : ℕ) → OwnReads net a b → Reads owns a b
-own_from net table x p d owns e a b r =
-    contracted_from table.lists owns table.own e a b (over_same (net_reads net) (reads_in table.lists) table.own (λ u v. sym (d.of_net.reads u v)) a b
-    (subst (λ o. ReadsOver (net_reads net) o a b) (sym d.of_net.own) r))
+own_from : (net : Net) (table : Cones) (x p : ℕ) → DependsOn net table x p → (a b : ℕ) → OwnReads net a b → ReadsOver (reads_in table.lists) table.own a b
+own_from net table x p d a b r = over_same (net_reads net) (reads_in table.lists) table.own (λ u v. sym (d.of_net.reads u v)) a b
+    (subst (λ o. ReadsOver (net_reads net) o a b) (sym d.of_net.own) r)
 
-pub chain_within : (net : Net) (table : Cones) (x p : ℕ) → DependsOn net table x p → (owns : List (List ℕ)) → length owns ≡ table.own
-    → ((a b : ℕ) → a < table.own → reads_in owns a b ≡ some_stands_for table.lists table.own (get_or table.lists a []) b) → (a b : ℕ) → reads_in owns a b ≡ true → b < length owns
-chain_within net table x p d owns l e a b r = subst (λ t. b < t) (sym (l ∙ d.of_net.own)) (own_to net table x p d owns l e a b r).read
+-- what a search for a chain asks of the table
+pub record ChainTable (table : Cones) (x p : ℕ) : Type 0 where
+  pub few : length table.lists < 2 ^ 32
+  pub own : table.own ≤ length table.lists
+  pub input : p < table.own
+  pub leads : (xs : List ℕ) × Leads (ReadsOver (reads_in table.lists) table.own) x xs p
 
-pub chain_leads : (net : Net) (table : Cones) (x p : ℕ) → DependsOn net table x p → (owns : List (List ℕ))
-    → ((a b : ℕ) → a < table.own → reads_in owns a b ≡ some_stands_for table.lists table.own (get_or table.lists a []) b) → (xs : List ℕ) × Leads (Reads owns) x xs p
-chain_leads net table x p d owns e =
-    let s : x < net.own = d.signal in
-    let o : net.own ≤ length net.signals = d.numbered.own in
-    let w = reached_leads (net_reads net) net.own d.numbered.conditions p x d.own_input d.signal ((d.of_net.cones x p (omega (arith, s, o)) d.input).0 d.has) in
-    (w.0, leads_map (OwnReads net) (Reads owns) (own_from net table x p d owns e) x w.0 p w.1)
+pub chain_table : (net : Net) (table : Cones) (x p : ℕ) → DependsOn net table x p → ChainTable table x p
+chain_table net table x p d = record {
+  few = subst (λ n. n < 2 ^ 32) (sym d.of_net.lists) d.numbered.few;
+  own = subst (λ n. table.own ≤ n) (sym d.of_net.lists) (subst (λ n. n ≤ length net.signals) (sym d.of_net.own) d.numbered.own);
+  input = subst (λ n. p < n) (sym d.of_net.own) d.own_input;
+  leads =
+      let s : x < net.own = d.signal in
+      let o : net.own ≤ length net.signals = d.numbered.own in
+      let w = reached_leads (net_reads net) net.own d.numbered.conditions p x d.own_input d.signal ((d.of_net.cones x p (omega (arith, s, o)) d.input).0 d.has) in
+      (w.0, leads_map (OwnReads net) (ReadsOver (reads_in table.lists) table.own) (own_from net table x p d) x w.0 p w.1);
+}
 
-pub chain_of : (net : Net) (table : Cones) (x p : ℕ) → DependsOn net table x p → (owns : List (List ℕ)) → length owns ≡ table.own
-    → ((a b : ℕ) → a < table.own → reads_in owns a b ≡ some_stands_for table.lists table.own (get_or table.lists a []) b) → (xs : List ℕ) → IsNamedChain (Reads owns) x p xs → IsNamedChain (OwnReads net) x p xs
-chain_of net table x p d owns l e xs n = chain_map (Reads owns) (OwnReads net) (own_to net table x p d owns l e) (own_from net table x p d owns e) x p xs n
+pub chain_of : (net : Net) (table : Cones) (x p : ℕ) → DependsOn net table x p → (xs : List ℕ) → IsNamedChain (ReadsOver (reads_in table.lists) table.own) x p xs → IsNamedChain (OwnReads net) x p xs
+chain_of net table x p d xs n = chain_map (ReadsOver (reads_in table.lists) table.own) (OwnReads net) (own_to net table x p d) (own_from net table x p d) x p xs n

@@ -2,6 +2,7 @@ pub mod HasFacts
 pub mod OrderFacts
 pub mod ReaderFacts
 pub mod MentionFacts
+pub mod MarkFacts
 pub mod LoopFacts
 pub mod DistanceFacts
 pub mod SearchFacts

@@ -1,20 +1,15 @@
 -- Reads between the signals of the circuit.
-use Rattle.std.proofs.Common.{◌≡◌, ◌∙◌, sym, ap, subst, ℕ, zero, suc, ◌+◌, ◌<◌, ◌≤◌, Bool, true, false, List, [], ◌∷◌, ◌++◌, ◌||◌, nat_eq, nat_lt, ◌⊎◌, inl, inr, refl, arith, ⊎_elim, length, drop, drop-cons, add-one, get_or, if◌then◌else◌}
+use Rattle.std.proofs.Common.{◌≡◌, ◌∙◌, sym, ap, subst, ℕ, suc, ◌+◌, ◌<◌, ◌≤◌, Bool, true, false, List, [], ◌∷◌, nat_eq, nat_lt, ◌⊎◌, inl, inr, refl, arith, ⊎_elim, length, if◌then◌else◌}
 use Rattle.std.proofs.lemmas.Bool.{or_cases, or_left, or_right, eq-eqb, eqb-true, cases_eq, cases_Bool}
 use Rattle.std.specs.Prelude.{IfSome, IfNone, Option, None, Some}
 use Rattle.std.proofs.lemmas.Grind.{common_steps}
-use Rattle.std.proofs.lemmas.List.{get_or_past}
 use Rattle.std.specs.List.{IsDistinct}
 use Rattle.net_core.specs.Rules.{Rules, has}
 use Rattle.net_core.proofs.Acyclic.{Path, last, more, extend, NoCycle, chase}
 use Rattle.net_graph.specs.Graphs.{reads_in, Within, Follows, IsOrder}
 use Rattle.net_graph.specs.Loops.{Leads, IsLoopFrom, NoLoops, IsNamedLoop, IsNamedChain}
 use Rattle.net_graph.specs.Taking.{Furthest}
-use Rattle.net_graph.specs.Mentions.{Grown}
-use Rattle.net_graph.specs.NetGraphs.{ReadsOver, stands_for, some_stands_for}
-use Rattle.net_graph.specs.Falling.{Reads}
-use Rattle.net_graph.proofs.HasFacts.{has_append, has_head}
-use Rattle.net_graph.proofs.MentionFacts.{WillHave}
+use Rattle.net_graph.specs.NetGraphs.{ReadsOver}
 use Rattle.net_graph.proofs.SearchFacts.{before_or_past}
 
 -- a number is below another by the test, or not
@@ -23,76 +18,6 @@ lt_true x n h = grind (arith, common_steps)
 
 pub lt_false : (x n : ℕ) → n ≤ x → nat_lt x n ≡ false
 lt_false x n h = grind (arith, common_steps)
-
-or_assoc : (a b c : Bool) → ((a || b) || c) ≡ (a || (b || c))
-or_assoc true b c = refl
-or_assoc false b c = refl
-
-or_none : (a : Bool) → a ≡ (a || false)
-or_none true = refl
-or_none false = refl
-
--- ---- contracted lists
-pub below_own : (lists : List (List ℕ)) (own y : ℕ) (xs : List ℕ) → y < own → Grown xs (xs ++ y ∷ []) (stands_for lists own y)
-below_own lists own y xs h z = has_append xs (y ∷ []) z ∙ ap (λ b. has xs z || b) (sym (or_none (nat_eq z y)) ∙ sym (ap (λ b. if b then nat_eq z y else reads_in lists y z) (lt_true y own h)))
-
-pub past_own : (lists : List (List ℕ)) (own y : ℕ) (xs : List ℕ) → own ≤ y → Grown xs (xs ++ get_or lists y []) (stands_for lists own y)
-past_own lists own y xs h z = has_append xs (get_or lists y []) z ∙ ap (λ b. has xs z || b) (sym (ap (λ b. if b then nat_eq z y else reads_in lists y z) (lt_false y own h)))
-
-behind_none : (xs : List ℕ) → xs ++ [] ≡ xs
-behind_none [] = refl
-behind_none (x ∷ xs) = ap (λ (o : List ℕ). x ∷ o) (behind_none xs)
-
-pub past_lists : (lists : List (List ℕ)) (own y : ℕ) (xs : List ℕ) → own ≤ y → length lists ≤ y → Grown xs xs (stands_for lists own y)
-past_lists lists own y xs h p = subst (λ (o : List ℕ). Grown xs o (stands_for lists own y)) (ap (λ (o : List ℕ). xs ++ o) (get_or_past lists y [] p) ∙ behind_none xs) (past_own lists own y xs h)
-
-pub entries_next : (lists : List (List ℕ)) (own : ℕ) (list : List ℕ) (i : ℕ) (first now after : List ℕ) → i < length list
-    → WillHave now (some_stands_for lists own (drop i list)) first (some_stands_for lists own list)
-    → Grown now after (stands_for lists own (get_or list i 0))
-    → WillHave after (some_stands_for lists own (drop (i + 1) list)) first (some_stands_for lists own list)
-entries_next lists own list i first now after h w g z =
-    let n : drop i list ≡ get_or list i 0 ∷ drop (i + 1) list = rw (drop-cons list i 0, add-one i) refl in
-    ap (λ b. b || some_stands_for lists own (drop (i + 1) list) z) (g z)
-    ∙ or_assoc (has now z) (stands_for lists own (get_or list i 0) z) (some_stands_for lists own (drop (i + 1) list) z)
-    ∙ ap (λ b. has now z || b) (sym (ap (λ (t : List ℕ). some_stands_for lists own t z) n))
-    ∙ w z
-
--- what stands for something, and what it stands for
-some_of : (lists : List (List ℕ)) (own : ℕ) (ys : List ℕ) (z : ℕ) → some_stands_for lists own ys z ≡ true → (y : ℕ) × (has ys y ≡ true) × (stands_for lists own y z ≡ true)
-some_of lists own [] z h = absurd cc
-some_of lists own (y ∷ ys) z h = ⊎_elim
-    (λ a. (y, has_head y ys, a))
-    (λ b. let r = some_of lists own ys z b in (r.0, or_right (nat_eq r.0 y) (has ys r.0) r.1, r.2))
-    (or_cases (stands_for lists own y z) (some_stands_for lists own ys z) h)
-
-of_some : (lists : List (List ℕ)) (own : ℕ) (ys : List ℕ) (y z : ℕ) → has ys y ≡ true → stands_for lists own y z ≡ true → some_stands_for lists own ys z ≡ true
-of_some lists own [] y z h s = absurd cc
-of_some lists own (a ∷ rest) y z h s = ⊎_elim
-    (λ e. or_left (stands_for lists own a z) (some_stands_for lists own rest z) (subst (λ q. stands_for lists own q z ≡ true) (eqb-true y a e) s))
-    (λ m. or_right (stands_for lists own a z) (some_stands_for lists own rest z) (of_some lists own rest y z m s))
-    (or_cases (nat_eq y a) (has rest y) h)
-
--- the contracted lists are the reads over the numbers that are not below `own`
-pub contracted_right : (lists : List (List ℕ)) (own x z : ℕ) → ((c y : ℕ) → own ≤ c → reads_in lists c y ≡ true → y < own) → x < own
-    → some_stands_for lists own (get_or lists x []) z ≡ true → ReadsOver (reads_in lists) own x z
-contracted_right lists own x z cond h s = go (some_of lists own (get_or lists x []) z s)
-  where
-    at : (y : ℕ) → has (get_or lists x []) y ≡ true → stands_for lists own y z ≡ true → (y < own) ⊎ (own ≤ y) → ReadsOver (reads_in lists) own x z
-    at y m t (inl b) =
-        let e : z ≡ y = eqb-true z y (sym (ap (λ q. if q then nat_eq z y else reads_in lists y z) (lt_true y own b)) ∙ t) in
-        record { reader = h; read = subst (λ q. q < own) (sym e) b; way = inl (subst (λ q. reads_in lists x q ≡ true) (sym e) m) }
-    at y m t (inr p) =
-        let r : reads_in lists y z ≡ true = sym (ap (λ q. if q then nat_eq z y else reads_in lists y z) (lt_false y own p)) ∙ t in
-        record { reader = h; read = cond y z p r; way = inr (y, p, m, r) }
-
-    go : (y : ℕ) × (has (get_or lists x []) y ≡ true) × (stands_for lists own y z ≡ true) → ReadsOver (reads_in lists) own x z
-    go r = at r.0 r.1 r.2 (before_or_past r.0 own)
-
-pub contracted_all : (lists : List (List ℕ)) (own x z : ℕ) → ReadsOver (reads_in lists) own x z → some_stands_for lists own (get_or lists x []) z ≡ true
-contracted_all lists own x z r = ⊎_elim
-    (λ d. of_some lists own (get_or lists x []) z z d (ap (λ q. if q then nat_eq z z else reads_in lists z z) (lt_true z own r.read) ∙ eq-eqb z z refl))
-    (λ c. of_some lists own (get_or lists x []) c.0 z c.2 (ap (λ q. if q then nat_eq z c.0 else reads_in lists c.0 z) (lt_false c.0 own c.1) ∙ c.3))
-    r.way
 
 -- ---- loops of graphs that are the same
 pub leads_map : (G H : ℕ → ℕ → Type 0) → ((x y : ℕ) → G x y → H x y) → (x : ℕ) (xs : List ℕ) (p : ℕ) → Leads G x xs p → Leads H x xs p
@@ -280,31 +205,6 @@ no_loops_of_order R own n order h o x other l = ordered_no_loop R own order o.fo
 
 pub named_same : (R S : ℕ → ℕ → Bool) (own : ℕ) → ((x y : ℕ) → R x y ≡ S x y) → (x : ℕ) (xs : List ℕ) → IsNamedLoop (ReadsOver R own) x xs → IsNamedLoop (ReadsOver S own) x xs
 named_same R S own e x xs n = named_map (ReadsOver R own) (ReadsOver S own) (over_same R S own e) (over_same S R own (λ a b. sym (e a b))) x xs n
-
--- the contracted lists are a graph of their own
-pub contracted_to : (lists owns : List (List ℕ)) (own : ℕ) → ((c y : ℕ) → own ≤ c → reads_in lists c y ≡ true → y < own) → length owns ≡ own
-    → ((x y : ℕ) → x < own → reads_in owns x y ≡ some_stands_for lists own (get_or lists x []) y) → (x y : ℕ) → Reads owns x y → ReadsOver (reads_in lists) own x y
-contracted_to lists owns own cond l e x y r =
-    let h : x < own = subst (λ q. x < q) l (listed owns x y r) in
-    contracted_right lists own x y cond h (sym (e x y h) ∙ r)
-  where
-    listed : (ls : List (List ℕ)) (x z : ℕ) → reads_in ls x z ≡ true → x < length ls
-    listed [] x z r = absurd cc
-    listed (a ∷ rest) zero z r = omega arith
-    listed (a ∷ rest) (suc x) z r = let q : x < length rest = listed rest x z r in omega (arith, q)
-
-pub contracted_from : (lists owns : List (List ℕ)) (own : ℕ) → ((x y : ℕ) → x < own → reads_in owns x y ≡ some_stands_for lists own (get_or lists x []) y)
-    → (x y : ℕ) → ReadsOver (reads_in lists) own x y → Reads owns x y
-contracted_from lists owns own e x y r = e x y r.reader ∙ contracted_all lists own x y r
-
--- optional results
-pub some_to : {V : Type 0} (P Q : V → Type 0) → ((v : V) → P v → Q v) → (o : Option V) → IfSome o P → IfSome o Q
-some_to P Q f None h = h
-some_to P Q f (Some v) h = f v h
-
-pub none_to : {V : Type 0} (P Q : Type 0) → (P → Q) → (o : Option V) → IfNone o P → IfNone o Q
-none_to P Q f None h = f h
-none_to P Q f (Some v) h = h
 
 pub none_holds : {V : Type 0} (P : Type 0) (o : Option V) → o ≡ None → IfNone o P → P
 none_holds P o e h = subst (λ q. IfNone q P) e h

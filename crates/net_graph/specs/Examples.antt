@@ -10,8 +10,8 @@ use Rattle.net_core.specs.declared.tree.Equation.TheVariants.{Input, Comb, Reg}
 use Rattle.net_core.specs.declared.tree.Net.{Net}
 use Rattle.net_core.specs.Nets.{net_reads}
 use Rattle.net_graph.specs.Loops.{IsLoopFrom}
-use Rattle.net_graph.specs.Falling.{Reads}
-use Rattle.net_graph.specs.NetGraphs.{OwnReads, stands_for}
+use Rattle.net_graph.specs.Falling.{Reads, EntryReads}
+use Rattle.net_graph.specs.NetGraphs.{OwnReads}
 use Rattle.net_graph.specs.Reaching.{Reached, in_set}
 
 abbrev s : ℕ → Signal
@@ -43,8 +43,8 @@ pub record GraphExamples : Type 0 where
   pub condition_reads : net_reads gated 4 1 ≡ true
   pub register_reads_nothing : net_reads gated 3 2 ≡ false
   pub cone_has_both : Reached (net_reads gated) 1 2
-  pub condition_stands_for_what_it_reads : stands_for ring 1 1 0 ≡ true
-  pub own_stands_for_itself : stands_for ring 2 1 0 ≡ false
+  pub condition_stands_for_what_it_reads : EntryReads ring 1 1 0
+  pub own_stands_for_itself_alone : EntryReads ring 2 1 0 → ⊥
   pub loop : IsLoopFrom (Reads ring) 0 (0 ∷ 1 ∷ [])
   pub second_bit : in_set (record { low = 6; high = 1 }) 2 ≡ true
   pub no_lowest_bit : in_set (record { low = 6; high = 1 }) 0 ≡ false

@@ -2,6 +2,7 @@ pub mod Graphs
 pub mod Taking
 pub mod Readers
 pub mod Mentions
+pub mod Marks
 pub mod Loops
 pub mod Distances
 pub mod Falling

@@ -9,7 +9,6 @@ ghost use Rattle.net_graph.specs.Reaching.{in_set, in_row_of, input_at, RightAt,
 ghost use Rattle.net_graph.specs.Loops.{IsNamedChain};
 ghost use Rattle.net_graph.specs.Uniting.{in_one_of};
 
-use crate::contract::own_lists;
 use crate::inputs::InputSet;
 use crate::level::{LevelOrder, signals_of};
 use crate::mention::read_lists;
@@ -114,13 +113,12 @@ impl Cones {
 
     /// The shortest list from the signal to the input in which each reads the next, and among these the least in order
     /// of signal numbers. It names signals of the circuit alone: a read over a condition is one step. The time and the
-    /// memory are linear in the reads between the circuit's signals.
+    /// memory are linear in the signals and their reads.
     pub fn chain(&self, alloc: Global, signal: Signal, input: Signal) -> Result<Seq<Signal>, Memory>
         requires { (net : Net) × DependsOn net self.now signal.0 input.0 }
         ensures { (net : Net) → DependsOn net self.now signal.0 input.0 → IfOk result (λ chain. IsNamedChain (OwnReads net) signal.0 input.0 (numbers chain)) }
     {
-        let lists = own_lists(alloc, self.lists.items(), self.own)?;
-        let path = least_chain(alloc, &lists, signal.0, input.0)?;
+        let path = least_chain(alloc, self.lists.items(), self.own, signal.0, input.0)?;
         let chain = signals_of(alloc, &path)?;
         Ok(chain)
     }

@@ -1,9 +1,13 @@
 //! Distances: how many reads lead from each number to one of them.
-ghost use Rattle.std.specs.Prelude.{◌≡◌, ◌≤◌, ◌<◌, ◌^◌, ◌+◌, ℕ, [], length, true, false, OnOk, IfOk};
+//!
+//! Only the numbers below `own` have a distance. A read over one that isn't below `own`, a condition, is one read: the
+//! search enters each condition once, since what reads it has its distance from then on.
+ghost use Rattle.std.specs.Prelude.{◌≡◌, ◌≤◌, ◌<◌, ◌+◌, ℕ, [], length, true, OnOk, IfOk};
 ghost use Rattle.net_core.specs.Rules.{has};
 ghost use Rattle.net_graph.specs.Readers.{in_row};
-ghost use Rattle.net_graph.specs.Distances.{distance_of, unreached, Level, Spread, AllReached, Step, Measures};
+ghost use Rattle.net_graph.specs.Distances.{distance_of, unreached, EntryReaches, RowReads, ReadsFront, Spread, AllEntered, Measures};
 
+use crate::marks::is_new;
 use std::alloc::Global;
 use tb_base::Memory;
 
@@ -21,17 +25,92 @@ pub(crate) fn row(rows: &[Vec<u32>], z: usize) -> &[u32]
 fn reach(
     x: u32,
     level: u32,
-    far: u32,
+    own: u32,
     distances: &mut [u32],
     next: &mut Vec<u32>,
 ) -> Result<(), Memory>
-    requires { x < length distances.old }
+    requires place { x < length distances.old }
+    requires room { level + unreached own distances.old ≤ own }
+    requires bounded { (k : ℕ) → distance_of distances.old own k ≤ own }
     ensures places { length distances.new ≡ length distances.old }
-    ensures step { OnOk result (Step x far level distances.old next.old.items distances.new next.new.items) }
+    ensures spread { OnOk result (Spread (λ k. k ≡ x) own level distances.old next.old.items distances.new next.new.items) }
 {
-    if distances[x as usize] == far {
+    if distances[x as usize] == own {
         next.push(x)?;
         distances[x as usize] = level;
+    }
+    Ok(())
+}
+
+/// Reaches all numbers of the list that are below `own`.
+fn reach_list(
+    list: &[u32],
+    level: u32,
+    own: u32,
+    distances: &mut [u32],
+    next: &mut Vec<u32>,
+) -> Result<(), Memory>
+    requires places { length distances.old ≡ own }
+    requires room { level + unreached own distances.old ≤ own }
+    requires bounded { (k : ℕ) → distance_of distances.old own k ≤ own }
+    ensures places { length distances.new ≡ length distances.old }
+    ensures spread { OnOk result (Spread (λ k. (k < own) × (has list.now k ≡ true)) own level distances.old next.old.items distances.new next.new.items) }
+{
+    for x in list {
+        if *x < own {
+            reach(*x, level, own, distances, next)?;
+        }
+    }
+    Ok(())
+}
+
+/// Reaches a number, or all that reads it where it is a condition that wasn't entered yet.
+fn reach_over(
+    readers: &[Vec<u32>],
+    x: u32,
+    level: u32,
+    own: u32,
+    distances: &mut [u32],
+    entered: &mut [bool],
+    next: &mut Vec<u32>,
+) -> Result<(), Memory>
+    requires places { length distances.old ≡ own }
+    requires room { level + unreached own distances.old ≤ own }
+    requires bounded { (k : ℕ) → distance_of distances.old own k ≤ own }
+    requires entered { AllEntered readers.now own entered.old distances.old }
+    ensures places { length distances.new ≡ length distances.old }
+    ensures spread { OnOk result (Spread (EntryReaches readers.now own x) own level distances.old next.old.items distances.new next.new.items) }
+    ensures entered { OnOk result (AllEntered readers.now own entered.new distances.new) }
+{
+    if x < own {
+        return reach(x, level, own, distances, next);
+    }
+    if is_new(entered, x) {
+        reach_list(row(readers, x as usize), level, own, distances, next)?;
+    }
+    Ok(())
+}
+
+/// Reaches all for which the entries of a row stand.
+fn reach_row(
+    readers: &[Vec<u32>],
+    row: &[u32],
+    level: u32,
+    own: u32,
+    distances: &mut [u32],
+    entered: &mut [bool],
+    next: &mut Vec<u32>,
+) -> Result<(), Memory>
+    requires places { length distances.old ≡ own }
+    requires room { level + unreached own distances.old ≤ own }
+    requires bounded { (k : ℕ) → distance_of distances.old own k ≤ own }
+    requires entered { AllEntered readers.now own entered.old distances.old }
+    ensures places { length distances.new ≡ length distances.old }
+    ensures spread { OnOk result (Spread (λ k. (x : ℕ) × (has row.now x ≡ true) × EntryReaches readers.now own x k) own level distances.old next.old.items distances.new next.new.items) }
+    ensures entered { OnOk result (AllEntered readers.now own entered.new distances.new) }
+{
+    for x in row {
+        reach_over(readers, *x, level, own, distances, entered, next)?;
     }
     Ok(())
 }
@@ -41,48 +120,63 @@ fn next_level(
     readers: &[Vec<u32>],
     front: &[u32],
     level: u32,
-    far: u32,
+    own: u32,
     distances: &mut [u32],
+    entered: &mut [bool],
     next: &mut Vec<u32>,
 ) -> Result<(), Memory>
-    requires places { (z k : ℕ) → in_row readers.now z k ≡ true → k < length distances.old }
-    requires room { level + unreached far distances.old ≤ far }
-    requires bounded { (x : ℕ) → distance_of distances.old far x ≤ far }
-    requires next { next.old.items ≡ [] }
+    requires places { length distances.old ≡ own }
+    requires room { level + unreached own distances.old ≤ own }
+    requires bounded { (k : ℕ) → distance_of distances.old own k ≤ own }
+    requires entered { AllEntered readers.now own entered.old distances.old }
     ensures places { length distances.new ≡ length distances.old }
-    ensures spread { OnOk result (Spread readers.now far level front.now distances.old distances.new next.new.items) }
-    ensures all { OnOk result (AllReached readers.now far front.now distances.new) }
+    ensures spread { OnOk result (Spread (ReadsFront (RowReads readers.now own) front.now) own level distances.old next.old.items distances.new next.new.items) }
+    ensures entered { OnOk result (AllEntered readers.now own entered.new distances.new) }
 {
     for z in front {
-        for x in row(readers, *z as usize) {
-            reach(*x, level, far, distances, next)?;
-        }
+        reach_row(
+            readers,
+            row(readers, *z as usize),
+            level,
+            own,
+            distances,
+            entered,
+            next,
+        )?;
     }
     Ok(())
 }
 
-/// The distance of each number to the target, and `far`, which is how many there are, where nothing leads there.
+/// The distance of each number below `own` to the target, and `own` where nothing leads there.
 ///
 /// The time is linear in the numbers and their reads.
 pub(crate) fn distances(
     alloc: Global,
     readers: &[Vec<u32>],
     target: u32,
-    far: u32,
+    own: u32,
 ) -> Result<Vec<u32>, Memory>
-    requires target { target < far }
-    requires places { (z k : ℕ) → in_row readers.now z k ≡ true → k < far }
-    ensures places { IfOk result (λ v. length v.items ≡ far) }
-    ensures measures { IfOk result (λ v. Measures (λ x z. in_row readers.now z x ≡ true) target far (distance_of v.items far)) }
+    requires { target < own }
+    ensures places { IfOk result (λ v. length v.items ≡ own) }
+    ensures measures { IfOk result (λ v. Measures (RowReads readers.now own) target own (distance_of v.items own)) }
 {
-    let mut distances = vec![in alloc; far; far as usize]?;
+    let mut distances = vec![in alloc; own; own as usize]?;
     distances[target as usize] = 0;
+    let mut entered = vec![in alloc; false; readers.len()]?;
     let mut front = vec![in alloc; target]?;
     let mut level = 0;
     while !front.is_empty() {
         level += 1;
         let mut next = Vec::new(alloc);
-        next_level(readers, &front, level, far, &mut distances, &mut next)?;
+        next_level(
+            readers,
+            &front,
+            level,
+            own,
+            &mut distances,
+            &mut entered,
+            &mut next,
+        )?;
         front = next;
     }
     Ok(distances)

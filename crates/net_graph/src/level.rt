@@ -1,13 +1,12 @@
 //! The order in which the signals of a net settle.
-ghost use Rattle.std.specs.Prelude.{◌≡◌, ◌≤◌, ◌<◌, ℕ, List, true, length, IfOk, IfSome, IfNone, IsErrOf};
+ghost use Rattle.std.specs.Prelude.{◌≡◌, ℕ, List, length, IfOk, IsErrOf};
 ghost use Rattle.net_core.specs.declared.ports.Signal.{Signal};
 ghost use Rattle.net_core.specs.Nets.{net_reads};
 ghost use Rattle.net_graph.specs.declared.level.GraphFault;
-ghost use Rattle.net_graph.specs.Graphs.{reads_in, IsOrder};
+ghost use Rattle.net_graph.specs.Graphs.{IsOrder};
 ghost use Rattle.net_graph.specs.Loops.{NoLoops, IsNamedLoop};
-ghost use Rattle.net_graph.specs.NetGraphs.{numbers, IsNumbered, OwnReads, ReadsOver};
+ghost use Rattle.net_graph.specs.NetGraphs.{numbers, IsNumbered, OwnReads};
 
-use crate::contract::own_lists;
 use crate::mention::read_lists;
 use crate::order::furthest_order;
 use crate::readers::readers_of;
@@ -74,26 +73,13 @@ pub(crate) fn signals_of(alloc: Global, order: &[u32]) -> Result<Seq<Signal>, Me
     Ok(Seq::of(signals))
 }
 
-/// The named loop of the reads between the first `own` numbers, where there is one.
-fn loop_over(alloc: Global, lists: &[Seq<u32>], own: u32) -> Result<Option<Vec<u32>>, Memory>
-    requires own { own ≤ length lists.now }
-    requires conditions { (c y : ℕ) → own ≤ c → reads_in lists.now c y ≡ true → y < own }
-    ensures some { IfOk result (λ found. IfSome found (λ v. (x : ℕ) × IsNamedLoop (ReadsOver (reads_in lists.now) own) x v.items)) }
-    ensures none { IfOk result (λ found. IfNone found (NoLoops (ReadsOver (reads_in lists.now) own))) }
-{
-    let own_lists = own_lists(alloc, lists, own)?;
-    let found = least_loop(alloc, &own_lists)?;
-    Ok(found)
-}
-
 /// Every signal of the net once, each after all that its equation reads in the cycle.
 ///
 /// `CombLoop` comes exactly where the reads between the circuit's signals, directly or over a condition, have a cycle.
 /// It lists the loop that begins at the least signal on any, is shortest, and is least in order of signal numbers among
 /// those. The first signal isn't repeated.
 ///
-/// The time is linear in the signals and their reads; where there is a loop, in the reads between the circuit's signals
-/// with those over conditions.
+/// The time and the memory are linear in the signals and their reads.
 pub fn levels(alloc: Global, net: &Net) -> Result<LevelOrder, GraphFault>
     requires { IsNumbered net.now }
     ensures order { IfOk result (λ order. IsOrder (net_reads net.now) (length net.now.signals) (numbers order)) }
@@ -104,7 +90,7 @@ pub fn levels(alloc: Global, net: &Net) -> Result<LevelOrder, GraphFault>
     let readers = readers_of(alloc, &lists)?;
     let order = furthest_order(alloc, &lists, &readers)?;
     if order.len() < lists.len() {
-        if let Some(found) = loop_over(alloc, &lists, net.own)? {
+        if let Some(found) = least_loop(alloc, &lists, &readers, net.own)? {
             return Err(GraphFault::CombLoop(signals_of(alloc, &found)?));
         }
     }

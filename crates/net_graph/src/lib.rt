@@ -11,11 +11,11 @@
 #![tactic(auto)]
 
 mod cones;
-mod contract;
 mod distance;
 mod examples;
 mod inputs;
 mod level;
+mod marks;
 mod mention;
 mod order;
 mod parts;

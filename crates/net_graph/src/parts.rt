@@ -8,6 +8,7 @@ ghost use Rattle.net_graph.specs.Falling.{Reads};
 ghost use Rattle.net_graph.specs.Parts.{part_of, NeverRises};
 
 use crate::distance::row;
+use crate::marks::is_new;
 use std::alloc::Global;
 use tb_base::{Memory, Seq};
 
@@ -18,18 +19,6 @@ enum Turn {
     Enter(u32),
     /// All that it leads to was entered.
     Leave(u32),
-}
-
-/// Marks the number, and says whether it had no mark.
-fn is_new(seen: &mut [bool], x: u32) -> bool {
-    match seen.get_mut(x as usize) {
-        Some(mark) => {
-            let new = !*mark;
-            *mark = true;
-            new
-        }
-        None => false,
-    }
 }
 
 /// The numbers below `count` in the order in which a depth-first walk along the rows leaves them.
@@ -85,7 +74,7 @@ fn give_part(
     Ok(())
 }
 
-/// Parts, as two walks find them: one along what reads each number, one against it, from what was left last.
+/// Parts from 1 on, as two walks find them: one along what reads each number, one against it, from what was left last.
 fn parts_found(
     alloc: Global,
     lists: &[Seq<u32>],
@@ -100,7 +89,7 @@ fn parts_found(
         let Some(x) = order.pop() else {
             break;
         };
-        give_part(lists, x, part, &mut seen, &mut parts, &mut waiting)?;
+        give_part(lists, x, part + 1, &mut seen, &mut parts, &mut waiting)?;
     }
     Ok(parts)
 }

@@ -59,9 +59,9 @@ line_whatever f (ResetFor l count) = refl
 abbrev pub judged_at : Ports → Region → Known → TestStmt → Option Rule
 judged_at ports region known s = first_broken (here ports region known) (out-TestStmt s)
 
-goes : (s : TestStmt) (ports : Ports) (region : Region) (rest : List ℕ → Bool) (known : Known)
+pub goes_on_by : (s : TestStmt) (ports : Ports) (region : Region) (rest : List ℕ → Bool) (known : Known)
     → (part s).goes_on ports region rest known ≡ unless_broken (judged_at ports region known s) (line_of (out-TestStmt s)) (behind (Inner s) ports region rest known)
-goes s ports region rest known =
+goes_on_by s ports region rest known =
     ap (λ p. p.goes_on ports region rest known) (unfold_part s)
     ∙ ap (λ b. unless_broken b (line_of (Inner s)) (behind (Inner s) ports region rest known)) (first_whatever (here ports region known) part (out-TestStmt s))
     ∙ ap (λ l. unless_broken (judged_at ports region known s) l (behind (Inner s) ports region rest known)) (line_whatever part (out-TestStmt s))
@@ -69,7 +69,7 @@ goes s ports region rest known =
 pub passed : (s : TestStmt) (x : TestStmt-F TestStmt) (ports : Ports) (region : Region) (rest : List ℕ → Bool) (known : Known) → judged_at ports region known s ≡ None → out-TestStmt s ≡ x
     → (part s).goes_on ports region rest known ≡ behind (map-TestStmt TestStmt Part part x) ports region rest known
 passed s x ports region rest known h e =
-    goes s ports region rest known ∙ ap (λ b. unless_broken b (line_of (out-TestStmt s)) (behind (Inner s) ports region rest known)) h
+    goes_on_by s ports region rest known ∙ ap (λ b. unless_broken b (line_of (out-TestStmt s)) (behind (Inner s) ports region rest known)) h
     ∙ ap (λ y. behind (map-TestStmt TestStmt Part part y) ports region rest known) e
 
 -- names

@@ -11,4 +11,5 @@ pub mod TestFits
 pub mod Faults
 pub mod Ordinary
 pub mod Texts
+pub mod Lengths
 pub mod Words

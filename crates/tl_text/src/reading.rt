@@ -1,6 +1,6 @@
 //! Reading a test text.
 
-ghost use Rattle.std.specs.Prelude.{◌≡◌, ◌<◌, ◌-◌, ◌^◌, Some, length, IfOk, IfErr};
+ghost use Rattle.std.specs.Prelude.{◌≡◌, ◌<◌, ◌≤◌, ◌-◌, ◌^◌, Some, length, IfOk, IfErr};
 ghost use Rattle.tl_lex.specs.Lex.{items_of};
 ghost use Rattle.tl_ast.specs.Tests as tests;
 ghost use Rattle.tl_text.specs.Faults as faults;
@@ -40,11 +40,13 @@ fn fault(kind: Kind, place: Place) -> TestReadFault
 /// The test that a text spells, or why it spells none.
 ///
 /// A fault but `Memory` comes exactly where the text spells no test, and stands at its first faulty place; `Memory` comes only where
-/// memory ran out, and then nothing is said of the text. The time and the memory are linear in the length of the text.
+/// memory ran out, and then nothing is said of the text. A test has at most as many statements as its text has bytes, those in blocks
+/// not counted. The time and the memory are linear in the length of the text.
 pub fn read_test(alloc: Global, text: &[u8]) -> Result<TestText, TestReadFault>
     requires { length text.now < 2 ^ 32 - 1 }
     ensures found { IfOk result (λ x. tests.test_of text.now ≡ Some x) }
     ensures spelled { IfOk result (λ x. tests.spells_test text.now x) }
+    ensures short { IfOk result (λ x. length x.body ≤ length text.now) }
     ensures first { IfErr result (λ e. faults.Faulty text.now e) }
     ensures fault { IfErr result (λ e. faults.FaultFound text.now e) }
 {

@@ -2,32 +2,35 @@ use Rattle.std.proofs.Common.{◌∙◌, ap, sym, not, ◌&&◌, option_map}
 use Rattle.fir_ast.specs.declared.tree.Ty.TheVariants as ty
 use Rattle.fir_check.specs.Types.{same_shape}
 use Rattle.fir_check.specs.Fields.{field_name, named_slot, lent_slot, has_match, have_matches, have_names}
-use Rattle.fir_check.proofs.Firsts.{placed, all_failed, all_step, all_done}
+use Rattle.fir_check.proofs.Firsts.{placed_past, all_failed, all_step, all_done}
 use Rattle.fir_check.proofs.Shapes.{bundle_shape, has_match_named, in_order_at, in_order_names, matches_slot}
 use Rattle.fir_check.proofs.Names.{found_is, and_true}
 use Rattle.fir_check.proofs.types.+same_shape.Goals as goal
 
-pub same_by_name-returns-then-counts : goal.same_by_name-returns-then-counts
-same_by_name-returns-then-counts t c =
-    all_failed field_name (has_match c.args.others.now) c.args.fields.now c.loop-k.k c.index-fields-k.result _ (placed field_name c.args.fields.now c.loop-k.k c.index-fields-k.result (not (has_match c.args.others.now c.index-fields-k.result)) _ _ _ _ c.loop-k-test.true c.index-fields-k.is (ap not c.has_match-differs.ensures) c.bytes.ensures c.counts.ensures c.if-counts.true) c.loop-k.invariant
+pub same_by_name-returns-then-lacks_match : goal.same_by_name-returns-then-lacks_match
+same_by_name-returns-then-lacks_match t c =
+    all_failed field_name (has_match c.args.others.now) c.args.fields.now c.loop-k.k c.index-fields-k.result _ (placed_past field_name c.args.fields.now c.loop-k.k c.index-fields-k.result (not (has_match c.args.others.now c.index-fields-k.result)) _ _ _ _ c.loop-k-test.true c.index-fields-k.is c.bytes.ensures c.is_before-is_old.ensures c.lacks_match.ensures c.if-lacks_match.true) c.loop-k.invariant
 
 pub same_by_name-loop-k-preserved : goal.same_by_name-loop-k-preserved
 same_by_name-loop-k-preserved t c =
-    all_step field_name (has_match c.args.others.now) c.args.fields.now c.loop-k.k c.index-fields-k.result _ (placed field_name c.args.fields.now c.loop-k.k c.index-fields-k.result (not (has_match c.args.others.now c.index-fields-k.result)) _ _ _ _ c.loop-k-test.true c.index-fields-k.is (ap not c.has_match-differs.ensures) c.bytes.ensures c.counts.ensures c.if-counts.false) c.loop-k.invariant
+    all_step field_name (has_match c.args.others.now) c.args.fields.now c.loop-k.k c.index-fields-k.result _ (placed_past field_name c.args.fields.now c.loop-k.k c.index-fields-k.result (not (has_match c.args.others.now c.index-fields-k.result)) _ _ _ _ c.loop-k-test.true c.index-fields-k.is c.bytes.ensures c.is_before-is_old.ensures c.lacks_match.ensures c.if-lacks_match.false) c.loop-k.invariant
 
 pub same_by_name-returns : goal.same_by_name-returns
 same_by_name-returns t c = all_done field_name (has_match c.args.others.now) c.args.fields.now c.loop-k.k _ c.loop-k-test.false c.loop-k.invariant
 
 pub same_in_order-returns-then-counts : goal.same_in_order-returns-then-counts
 same_in_order-returns-then-counts t c =
-    all_failed field_name (has_match c.args.others.now) c.args.fields.now c.loop-k.k c.index-fields-k.result _ (in_order_at c.args.fields.now c.args.others.now c.loop-k.k c.index-fields-k.result c.index-others-k.result _ _ _ _ c.requires c.loop-k-test.true c.index-fields-k.is c.index-others-k.is c.same_field-differs.ensures c.bytes.ensures c.counts.ensures c.if-counts.true) c.loop-k.invariant
+    all_failed field_name (has_match c.args.others.now) c.args.fields.now c.loop-k.k c.index-fields-k.result _ (in_order_at c.args.fields.now c.args.others.now c.loop-k.k c.index-fields-k.result c.index-others-k.result _ _ _ _ c.requires c.loop-k-test.true c.index-fields-k.is c.index-others-k.is c.same_field-differs.ensures c.bytes.ensures c.counts.ensures.counts c.if-counts.true) c.loop-k.invariant.found
 
 pub same_in_order-loop-k-preserved : goal.same_in_order-loop-k-preserved
 same_in_order-loop-k-preserved t c =
-    all_step field_name (has_match c.args.others.now) c.args.fields.now c.loop-k.k c.index-fields-k.result _ (in_order_at c.args.fields.now c.args.others.now c.loop-k.k c.index-fields-k.result c.index-others-k.result _ _ _ _ c.requires c.loop-k-test.true c.index-fields-k.is c.index-others-k.is c.same_field-differs.ensures c.bytes.ensures c.counts.ensures c.if-counts.false) c.loop-k.invariant
+    record {
+      found = all_step field_name (has_match c.args.others.now) c.args.fields.now c.loop-k.k c.index-fields-k.result _ (in_order_at c.args.fields.now c.args.others.now c.loop-k.k c.index-fields-k.result c.index-others-k.result _ _ _ _ c.requires c.loop-k-test.true c.index-fields-k.is c.index-others-k.is c.same_field-differs.ensures c.bytes.ensures c.counts.ensures.counts c.if-counts.false) c.loop-k.invariant.found;
+      named = c.counts.ensures.table;
+    }
 
 pub same_in_order-returns : goal.same_in_order-returns
-same_in_order-returns t c = all_done field_name (has_match c.args.others.now) c.args.fields.now c.loop-k.k _ c.loop-k-test.false c.loop-k.invariant
+same_in_order-returns t c = all_done field_name (has_match c.args.others.now) c.args.fields.now c.loop-k.k _ c.loop-k-test.false c.loop-k.invariant.found
 
 pub has_match-returns-in-None : goal.has_match-returns-in-None
 has_match-returns-in-None t c =

@@ -1,4 +1,4 @@
-use Rattle.std.proofs.Common.{◌≡◌, ◌∙◌, sym, ap, subst, ℕ, List, length}
+use Rattle.std.proofs.Common.{sym, subst, List, length}
 use Rattle.net_core.specs.declared.ports.Signal.{Signal}
 use Rattle.net_core.specs.declared.tree.Net.{Net}
 use Rattle.net_core.specs.Nets.{net_reads}

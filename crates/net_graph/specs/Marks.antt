@@ -1,0 +1,5 @@
+-- Marks of numbers.
+use Rattle.std.specs.Prelude.{ℕ, Bool, false, List, slice_index_or}
+
+abbrev pub is_marked : List Bool → ℕ → Bool
+is_marked marks x = slice_index_or marks x false

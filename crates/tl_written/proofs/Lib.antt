@@ -1,0 +1,5 @@
+pub mod Gives
+pub mod ExprsWritten
+pub mod RowsWritten
+pub mod BlocksWritten
+pub mod Texts
