@@ -7,4 +7,6 @@ pub mod Following
 pub mod Faults
 pub mod Examples
 pub mod CoreTests
+pub mod Bounds
+pub mod BoundsExamples
 pub mod Checked

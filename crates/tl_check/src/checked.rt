@@ -5,6 +5,7 @@ ghost use Rattle.tl_check.specs.Scopes.{nothing_known};
 ghost use Rattle.tl_check.specs.Walk.{part, in_turn, broken_in, test_rule};
 ghost use Rattle.tl_check.specs.Following.{IsRule};
 ghost use Rattle.tl_check.specs.Faults.{Tells};
+ghost use Rattle.tl_check.specs.Bounds.{TestBounds};
 ghost use Rattle.tl_check.specs.Checked.{TestFor};
 
 use crate::fault::{TestFault, fault_of};
@@ -17,7 +18,7 @@ use std::marker::Model;
 use tb_base::{Memory, Region};
 use tl_ast::TestText;
 
-/// A test that breaks no rule for some ports, and a copy of these. Contracts see both.
+/// A test that breaks no rule for some ports and keeps the bounds of a written test, and a copy of these ports. Contracts see both.
 #[derive(Drop)]
 pub struct CheckedTest {
     test: TestText,
@@ -29,6 +30,7 @@ impl Model for CheckedTest {
     ghost use Rattle.std.specs.Coded.{codes};
     ghost use Rattle.tl_ast.specs.contracts.tree.TestExpr as expr;
     ghost use Rattle.tl_ast.specs.contracts.tree.TestStmt as stmt;
+    ghost use Rattle.tl_check.specs.Bounds.{TestBounds};
     ghost use Rattle.tl_check.specs.Checked.{TestFor};
     ghost use Rattle.tl_check.specs.Walk.{test_rule};
 
@@ -38,16 +40,26 @@ impl Model for CheckedTest {
 
     ghost view = { λ c. record { test = c.test; ports = c.ports } };
 
-    ghost invariant = { λ c. test_rule c.test c.ports ≡ None };
+    ghost invariant = { λ c. (test_rule c.test c.ports ≡ None) × TestBounds c.test };
 }
 
 impl CheckedTest {
-    /// The test. It breaks no rule for the ports.
+    /// The test. It breaks no rule for the ports, and keeps the bounds.
     pub fn test(&self) -> &TestText
         ensures is { result.now ≡ self.now.test }
         ensures rule { test_rule result.now self.now.ports ≡ None }
+        ensures bounds { TestBounds result.now }
     {
         &self.test
+    }
+
+    /// An equal value, or `Memory`. The time and the memory are linear in the size of the test and of the table.
+    pub fn copy(&self, alloc: Global) -> Result<CheckedTest, Memory>
+        ensures { IfOk result (λ c. c ≡ self.now) }
+    {
+        let test = self.test.copy(alloc)?;
+        let ports = self.ports.copy()?;
+        Ok(CheckedTest { test, ports })
     }
 
     /// The ports for which it was checked.
@@ -62,6 +74,7 @@ impl CheckedTest {
         ensures test { result.0 ≡ self.test }
         ensures ports { result.1 ≡ self.ports }
         ensures rule { test_rule result.0 result.1 ≡ None }
+        ensures bounds { TestBounds result.0 }
     {
         let CheckedTest { test, ports } = self;
         (test, ports)
@@ -77,7 +90,7 @@ fn keeps_rules(alloc: Global, test: &TestText, ports: &PortTable) -> Result<(), 
     Ok(())
 }
 
-/// Checks a test against the rules for these ports. The answer has copies of both; or it tells of the
+/// Checks a test, which keeps the bounds of a written one, against the rules for these ports. The answer has copies of both; or it tells of the
 /// first statement in text order that breaks a rule, with the first rule that this statement breaks.
 /// `TestFault::Memory` says that there wasn't enough memory. The time is linear in the size of the test,
 /// but that a statement is looked at once more for each handle, of at most 64, in whose scope it stands.
@@ -86,6 +99,7 @@ pub fn check_test(
     test: &TestText,
     ports: &PortTable,
 ) -> Result<CheckedTest, TestFault>
+    requires bounds { TestBounds test.now }
     ensures kept { IfOk result (λ c. c ≡ record { test = test.now; ports = ports.now }) }
     ensures rule { IfOk result (λ c. test_rule test.now ports.now ≡ None) }
     ensures broken { IfErr result (λ e. Tells (test_rule test.now ports.now) e) }

@@ -1,5 +1,6 @@
 //! Laws that say what the definitions of the rules give for tests that a reader can follow.
 ghost use Rattle.tl_check.specs.Examples.{RuleExamples, WidthExamples, ScopeExamples, NameExamples};
+ghost use Rattle.tl_check.specs.BoundsExamples.{BoundsExamples};
 
 /// A law: tests that keep the rules, or break one or two, worked out.
 pub fn the_rules_work_out()
@@ -19,4 +20,9 @@ pub fn the_scopes_work_out()
 /// A law: when one name too many becomes known, worked out.
 pub fn the_names_work_out()
     ensures { NameExamples }
+{}
+
+/// A law: how large some tests are, worked out.
+pub fn the_bounds_work_out()
+    ensures { BoundsExamples }
 {}

@@ -21,7 +21,8 @@ mod walk;
 pub use checked::{CheckedTest, check_test};
 pub use core_test::CoreTest;
 pub use examples::{
-    the_names_work_out, the_rules_work_out, the_scopes_work_out, the_widths_work_out,
+    the_bounds_work_out, the_names_work_out, the_rules_work_out, the_scopes_work_out,
+    the_widths_work_out,
 };
 pub use fault::TestFault;
 pub use rule::Rule;

@@ -1,4 +1,7 @@
 //! Tests for a circuit with one port, the input `a` of 4 bits.
+ghost use Rattle.std.specs.Prelude.{◌≡◌, Some, [], codes, IfOk};
+ghost use Rattle.tl_ast.specs.declared.tree.TestStmt.TheVariants.{Poke, Fork, Join};
+ghost use Rattle.tl_check.specs.Bounds.{TestBounds};
 
 use crate::{CheckedTest, CoreTest, TestFault, check_test};
 use net_core::{PortInfo, PortTable, Signal};
@@ -11,7 +14,9 @@ use tl_ast::{TestExpr, TestStmt, TestText, print_test};
 /// What `check_test` says of a test, or that there wasn't enough memory to make it.
 type Checking = Result<Result<CheckedTest, TestFault>, Memory>;
 
-fn name(alloc: Global, text: &[u8]) -> Result<Name, Memory> {
+fn name(alloc: Global, text: &[u8]) -> Result<Name, Memory>
+    ensures { IfOk result (λ n. n ≡ text.now) }
+{
     Ok(Name::of(Vec::from_slice(alloc, text)?))
 }
 
@@ -27,7 +32,9 @@ fn table(alloc: Global) -> Result<PortTable, Memory> {
     Ok(table)
 }
 
-fn poke(alloc: Global, line: u32, value: TestExpr) -> Result<TestStmt, Memory> {
+fn poke(alloc: Global, line: u32, value: TestExpr) -> Result<TestStmt, Memory>
+    ensures { IfOk result (λ s. s ≡ Poke line (codes "a") value) }
+{
     Ok(TestStmt::Poke {
         line,
         port: name(alloc, b"a")?,
@@ -35,7 +42,9 @@ fn poke(alloc: Global, line: u32, value: TestExpr) -> Result<TestStmt, Memory> {
     })
 }
 
-fn fork(alloc: Global, line: u32, region: Region) -> Result<TestStmt, Memory> {
+fn fork(alloc: Global, line: u32, region: Region) -> Result<TestStmt, Memory>
+    ensures { IfOk result (λ s. s ≡ Fork line (Some region) (codes "h") []) }
+{
     Ok(TestStmt::Fork {
         line,
         region: Some(region),
@@ -44,14 +53,18 @@ fn fork(alloc: Global, line: u32, region: Region) -> Result<TestStmt, Memory> {
     })
 }
 
-fn join(alloc: Global, line: u32) -> Result<TestStmt, Memory> {
+fn join(alloc: Global, line: u32) -> Result<TestStmt, Memory>
+    ensures { IfOk result (λ s. s ≡ Join line (codes "h")) }
+{
     Ok(TestStmt::Join {
         line,
         handle: name(alloc, b"h")?,
     })
 }
 
-fn check_body(alloc: Global, body: Vec<TestStmt>) -> Checking {
+fn check_body(alloc: Global, body: Vec<TestStmt>) -> Checking
+    requires { TestBounds (record { body = body.items }) }
+{
     let test = TestText {
         body: Seq::of(body),
     };

@@ -1,0 +1,4 @@
+pub mod Gives
+pub mod ExprsWritten
+pub mod RowsWritten
+pub mod BlocksWritten
