@@ -1,1 +1,4 @@
 pub mod NameFacts
+pub mod Operands
+pub mod Layouts
+pub mod Refines
