@@ -171,8 +171,10 @@ once_grown xs n None e once k lt = ⊎_elim below last (split k (length xs) (ome
     split zero (suc b) l = inl (omega arith)
     split (suc a) zero l = absurd (omega arith)
     split (suc a) (suc b) l = ⊎_elim (λ p. inl (omega arith)) (λ p. inr (omega arith)) (split a b (omega arith))
+
     below : k < length xs → slot_found (name_at (xs ++ n ∷ []) k) (xs ++ n ∷ []) ≡ Some k
     below l = ap (λ x. slot_found x (xs ++ n ∷ [])) (at_front xs n k l) ∙ find_append (name_at xs k) xs n k (once k l)
+
     last : k ≡ length xs → slot_found (name_at (xs ++ n ∷ []) k) (xs ++ n ∷ []) ≡ Some k
     last l = ap (λ j. slot_found (name_at (xs ++ n ∷ []) j) (xs ++ n ∷ [])) l ∙ ap (λ x. slot_found x (xs ++ n ∷ [])) (at_last xs n) ∙ find_last n xs e ∙ ap Some (sym l)
 
@@ -189,6 +191,12 @@ get_same m n x = get_insert m n x n ∙ ap (λ b. cond b (Some x) (map.get m n))
 
 pub get_other : (m : Numbers) (n : Name) (x : ℕ) (r : Name) → (r ≡ n → ⊥) → map.get (map.insert m n x) r ≡ map.get m r
 get_other m n x r ne = get_insert m n x r ∙ ap (λ b. cond b (Some x) (map.get m r)) (other_name r n ne)
+
+pub get_none : (r : Name) → map.get (map.empty {X = ℕ} {R = name_cmp}) r ≡ None
+get_none r = map.get-empty name_cmp r
+
+-- look-ups that compute
+pub ruleset looked_up = (get_insert, get_none)
 
 -- a number goes into the slot of a name that is known or new
 pub agrees_set : (vs : List Name) (m : Numbers) (ls : List ℕ) (n : Name) (x : ℕ) → length (with_name vs n) ≤ length ls → Agrees vs m ls
@@ -213,6 +221,7 @@ agrees_known vs m ls n x kn lt a r k e = go (bytes_eq r n) refl
   where
     here : slot_found n vs ≡ Some (slot n vs)
     here = known_slot vs n kn
+
     go : (b : Bool) → bytes_eq r n ≡ b → map.get (map.insert m n x) r ≡ Some (slice_index (slice_set ls (slot n vs) x) k)
     go true t =
         let i : r ≡ n = same_name r n t in

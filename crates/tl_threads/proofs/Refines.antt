@@ -132,24 +132,29 @@ module _ (v h : ℕ) (f : Places) (limit d : ℕ) (g : Region) where
   unfolding Resumes
   over_turn used hm n go R l e a fs m s o back t k sl =
       R l (turns l e (value m e) a fs) m s (record s { pc = cond (is_zero (value m e)) (suc s.pc) back }) (at o (instr.Turn l (operand o.vars e) back)) o t.here
-        (λ full jump to. ap (λ x. locally full l s (to (record s { pc = cond (is_zero x) (suc s.pc) back }))) (operand_value o.vars m s.locals e sl.vars t.known))
-        (turned_on o s.pc back l e a fs s.loops t k (is_zero (value m e)))
-        (slots_at v h d g o s (cond (is_zero (value m e)) (suc s.pc) back) s.loops m hm n sl)
+      (λ full jump to. ap (λ x. locally full l s (to (record s { pc = cond (is_zero x) (suc s.pc) back }))) (operand_value o.vars m s.locals e sl.vars t.known))
+      (turned_on o s.pc back l e a fs s.loops t k (is_zero (value m e)))
+      (slots_at v h d g o s (cond (is_zero (value m e)) (suc s.pc) back) s.loops m hm n sl)
 
   over_again : (used : ℕ) (hm : Numbers) (n : ℕ) (go : Goes) → Resumes used hm n go → (l left : ℕ) (a : Body) (fs : List Frame) (m : Numbers) (s : Core) (o : Scope) (back : ℕ) (rest : List ℕ) → Counted v h f o o s.pc back l left a rest s.loops → Continues v h f o (suc s.pc) fs rest → Slots v h d g o s m hm n → Does v h f limit d g used s (go l (repeats l left a fs) m)
   unfolding Resumes
   over_again used hm n go R l zero a fs m s o back rest t k sl =
       R l fs m s (record s { pc = suc s.pc; loops = rest }) (at (deeper o) (instr.Again l back)) o t.here
-        (λ full jump to. ap (λ x. locally full l s (go_if to (counted_on s.pc back s x))) t.counts)
-        k
-        (slots_at v h d g o s (suc s.pc) rest m hm n sl)
+      (λ full jump to. ap (λ x. locally full l s (go_if to (counted_on s.pc back s x))) t.counts)
+      k
+      (slots_at v h d g o s (suc s.pc) rest m hm n sl)
   over_again used hm n go R l (suc left) a fs m s o back rest t k sl =
       R l (block a ∷ again l left a ∷ fs) m s (record s { pc = back; loops = left ∷ rest }) (at (deeper o) (instr.Again l back)) (deeper o) t.here
-        (λ full jump to. ap (λ x. locally full l s (go_if to (counted_on s.pc back s x))) t.counts)
-        (back, deeper o, inl refl, outer_refl (deeper o), laid,
-         subst (λ p. Continues v h f (deeper o) p (again l left a ∷ fs) (left ∷ rest)) t.foot
-           (back, o, rest, record { outer = record { vars = within_refl o.vars; handles = within_refl o.handles; depth = refl; region = refl }; counts = refl; here = t.here; body = laid; foot = t.foot }, k))
-        (slots_deeper v h d g o s back (left ∷ rest) m hm n sl)
+      (λ full jump to. ap (λ x. locally full l s (go_if to (counted_on s.pc back s x))) t.counts) (
+        back,
+        deeper o,
+        inl refl,
+        outer_refl (deeper o),
+        laid,
+        subst (λ p. Continues v h f (deeper o) p (again l left a ∷ fs) (left ∷ rest)) t.foot
+            (back, o, rest, record { outer = record { vars = within_refl o.vars; handles = within_refl o.handles; depth = refl; region = refl }; counts = refl; here = t.here; body = laid; foot = t.foot }, k),
+      )
+      (slots_deeper v h d g o s back (left ∷ rest) m hm n sl)
     where
       laid : Laid v h f (deeper o) back a (left ∷ rest)
       laid = record { code = t.body.code; checked = t.body.checked; once = t.body.once; counts = t.body.counts ∙ ap length t.counts }
@@ -160,17 +165,26 @@ module _ (v h : ℕ) (f : Places) (limit d : ℕ) (g : Region) where
   unfolding Resumes
   enter_counted used hm n go R l zero e a k fs m s o ex kn ca ck once cn p c sl =
       R l (block k ∷ fs) m s (record s { pc = p.out }) (at o (instr.Count l (operand o.vars e) p.out)) o p.at_head
-        (λ full jump to. ap (λ x. locally full l s (to (counted x s.pc p.out s))) (operand_value o.vars m s.locals e sl.vars kn ∙ ex))
-        (then_block v h f o o p.out _ k fs s.loops (record { code = p.at_rest; checked = ck; once = once; counts = cn }) (outer_refl o) refl c)
-        (slots_at v h d g o s p.out s.loops m hm n sl)
+      (λ full jump to. ap (λ x. locally full l s (to (counted x s.pc p.out s))) (operand_value o.vars m s.locals e sl.vars kn ∙ ex))
+      (then_block v h f o o p.out _ k fs s.loops (record { code = p.at_rest; checked = ck; once = once; counts = cn }) (outer_refl o) refl c)
+      (slots_at v h d g o s p.out s.loops m hm n sl)
   enter_counted used hm n go R l (suc x) e a k fs m s o ex kn ca ck once cn p c sl =
       R l (block a ∷ again l x a ∷ block k ∷ fs) m s (record s { pc = suc s.pc; loops = x ∷ s.loops }) (at o (instr.Count l (operand o.vars e) p.out)) (deeper o) p.at_head
-        (λ full jump to. ap (λ x. locally full l s (to (counted x s.pc p.out s))) (operand_value o.vars m s.locals e sl.vars kn ∙ ex))
-        (suc s.pc, deeper o, inl refl, outer_refl (deeper o), laid,
-         subst (λ q. Continues v h f (deeper o) q (again l x a ∷ block k ∷ fs) (x ∷ s.loops)) p.foot_is
-           (suc s.pc, o, s.loops, record { outer = record { vars = within_refl o.vars; handles = within_refl o.handles; depth = refl; region = refl }; counts = refl; here = p.at_foot; body = laid; foot = p.foot_is },
-            subst (λ q. Continues v h f o q (block k ∷ fs) s.loops) p.out_is (then_block v h f o o p.out _ k fs s.loops (record { code = p.at_rest; checked = ck; once = once; counts = cn }) (outer_refl o) refl c)))
-        (slots_deeper v h d g o s (suc s.pc) (x ∷ s.loops) m hm n sl)
+      (λ full jump to. ap (λ x. locally full l s (to (counted x s.pc p.out s))) (operand_value o.vars m s.locals e sl.vars kn ∙ ex)) (
+        suc s.pc,
+        deeper o,
+        inl refl,
+        outer_refl (deeper o),
+        laid,
+        subst (λ q. Continues v h f (deeper o) q (again l x a ∷ block k ∷ fs) (x ∷ s.loops)) p.foot_is (
+          suc s.pc,
+          o,
+          s.loops,
+          record { outer = record { vars = within_refl o.vars; handles = within_refl o.handles; depth = refl; region = refl }; counts = refl; here = p.at_foot; body = laid; foot = p.foot_is },
+          subst (λ q. Continues v h f o q (block k ∷ fs) s.loops) p.out_is (then_block v h f o o p.out _ k fs s.loops (record { code = p.at_rest; checked = ck; once = once; counts = cn }) (outer_refl o) refl c),
+        ),
+      )
+      (slots_deeper v h d g o s (suc s.pc) (x ∷ s.loops) m hm n sl)
     where
       laid : Laid v h f (deeper o) (suc s.pc) a (x ∷ s.loops)
       laid = record { code = p.at_body; checked = ca; once = once; counts = ap (λ z. suc z) cn }
@@ -186,11 +200,19 @@ module _ (v h : ℕ) (f : Places) (limit d : ℕ) (g : Region) where
   while_on : (o : Scope) (pc l : ℕ) (e : Expr) (a k : Body) (fs : List Frame) (loops : List ℕ) → KnownIn o.vars e → Checked v h a o.vars o.handles → Checked v h k o.vars o.handles → Once o.handles → o.loops ≡ length loops →
       (p : Framed f pc (λ to. at o (instr.Enter l (operand o.vars e) to)) (λ p. block_code a o p) (λ back. at o (instr.Turn l (operand o.vars e) back)) (λ p. block_code k o p)) → Continues v h f o (p.out + length (block_code k o p.out)) fs loops → (z : Bool) → Continues v h f o (cond z p.out (suc pc)) (cond z (block k ∷ fs) (block a ∷ turn l e a ∷ block k ∷ fs)) loops
   while_on o pc l e a k fs loops kn ca ck once cn p c true = (p.out, o, inl refl, outer_refl o, record { code = p.at_rest; checked = ck; once = once; counts = cn }, c)
-  while_on o pc l e a k fs loops kn ca ck once cn p c false =
-      (suc pc, o, inl refl, outer_refl o, record { code = p.at_body; checked = ca; once = once; counts = cn },
-       subst (λ q. Continues v h f o q (turn l e a ∷ block k ∷ fs) loops) p.foot_is
-         (suc pc, o, record { outer = outer_refl o; here = p.at_foot; known = kn; body = record { code = p.at_body; checked = ca; once = once; counts = cn }; foot = p.foot_is },
-          subst (λ q. Continues v h f o q (block k ∷ fs) loops) p.out_is (p.out, o, inl refl, outer_refl o, record { code = p.at_rest; checked = ck; once = once; counts = cn }, c)))
+  while_on o pc l e a k fs loops kn ca ck once cn p c false = (
+    suc pc,
+    o,
+    inl refl,
+    outer_refl o,
+    record { code = p.at_body; checked = ca; once = once; counts = cn },
+    subst (λ q. Continues v h f o q (turn l e a ∷ block k ∷ fs) loops) p.foot_is (
+      suc pc,
+      o,
+      record { outer = outer_refl o; here = p.at_foot; known = kn; body = record { code = p.at_body; checked = ca; once = once; counts = cn }; foot = p.foot_is },
+      subst (λ q. Continues v h f o q (block k ∷ fs) loops) p.out_is (p.out, o, inl refl, outer_refl o, record { code = p.at_rest; checked = ck; once = once; counts = cn }, c),
+    ),
+  )
 
   -- ---- actions
 
@@ -202,34 +224,40 @@ module _ (v h : ℕ) (f : Places) (limit d : ℕ) (g : Region) where
       Does v h f limit d g used s (peek l sig.0 (is_none into) (λ x. keeps (set_if into x m) hm n (block k ∷ fs)))
   peek_does used hm n l sig None k fs m s o la c sl =
       acts used s (at o (instr.Peek l sig None)) (record { doing = peeks l sig.0 None; core = record s { pc = suc s.pc }; child = None }) _ la.code.0 (λ full jump go. refl)
-        (record { into = None; only = (refl, refl); shows = refl; then = λ x. record { scope = o; goes_on = rest_on o s.pc (at o (instr.Peek l sig None)) k fs s.loops la.code.1 la.checked.1 la.once la.counts c; slots = slots_at v h d g o s (suc s.pc) s.loops m hm n sl } })
+      (record { into = None; only = (refl, refl); shows = refl; then = λ x. record { scope = o; goes_on = rest_on o s.pc (at o (instr.Peek l sig None)) k fs s.loops la.code.1 la.checked.1 la.once la.counts c; slots = slots_at v h d g o s (suc s.pc) s.loops m hm n sl } })
   peek_does used hm n l sig (Some y) k fs m s o la c sl =
       acts used s (at o (instr.Peek l sig (Some (slot y o.vars)))) (record { doing = peeks l sig.0 (Some (slot y o.vars)); core = record s { pc = suc s.pc }; child = None }) _ la.code.0 (λ full jump go. refl)
-        (record { into = Some (slot y o.vars); only = (refl, refl); shows = refl; then = λ x. record { scope = o; goes_on = rest_on o s.pc (at o (instr.Peek l sig (Some (slot y o.vars)))) k fs s.loops la.code.1 la.checked.1 la.once la.counts c; slots = known_set v h d g o s (suc s.pc) y x m hm n la.checked.0.0 la.checked.0.1 sl } })
+      (record { into = Some (slot y o.vars); only = (refl, refl); shows = refl; then = λ x. record { scope = o; goes_on = rest_on o s.pc (at o (instr.Peek l sig (Some (slot y o.vars)))) k fs s.loops la.code.1 la.checked.1 la.once la.counts c; slots = known_set v h d g o s (suc s.pc) y x m hm n la.checked.0.0 la.checked.0.1 sl } })
 
   fork_does : (used : ℕ) (hm : Numbers) (n l : ℕ) (r : Region) (y : Name) (a k : Body) (fs : List Frame) (m : Numbers) (s : Core) (o : Scope) → Laid v h f o s.pc (fork_as l r y a k) s.loops → Continues v h f o (s.pc + length (block_code (fork_as l r y a k) o s.pc)) fs s.loops → Slots v h d g o s m hm n →
       Does v h f limit d g used s (fork l (region_number r) (begins a m) (keeps m (map.insert hm y n) (suc n) (block k ∷ fs)))
   fork_does used hm n l r y a k fs m s o la c sl =
       let p = framed_parts f s.pc (λ to. at o (instr.Fork l r (slot y (with_name o.handles y)) to)) (λ p. block_code a (child_scope r o) p) (λ back. at (child_scope r o) instr.End) (λ p. block_code k (with_handle y o) p) la.code in
       acts used s (at o (instr.Fork l r (slot y (with_name o.handles y)) p.out)) (forked l r (slot y (with_name o.handles y)) p.out s) _ p.at_head (λ full jump go. refl)
-        (record {
-          child_region = r;
-          number = refl;
-          doing = refl;
-          pc = suc s.pc;
-          child = refl;
-          newborn = record {
-            scope = child_scope r o;
-            goes_on = (suc s.pc, child_scope r o, inl refl, outer_refl (child_scope r o), record { code = p.at_body; checked = la.checked.0; once = once_empty; counts = refl },
-              (child_scope r o, record { outer = outer_refl (child_scope r o); here = ap f (sym p.foot_is) ∙ p.at_foot; once = once_empty; open_loops = refl; counts = refl }));
-            slots = slots_born v h d g r o s (suc s.pc) m hm n sl;
-          };
-          then = record {
-            scope = with_handle y o;
-            goes_on = then_block v h f o (with_handle y o) p.out _ k fs s.loops (record { code = p.at_rest; checked = la.checked.2; once = once_with o.handles y la.once; counts = la.counts }) (record { vars = within_refl o.vars; handles = with_within o.handles y; depth = refl; region = refl }) p.ends c;
-            slots = handle_set v h d g o s p.out y m hm n la.checked.1 sl;
-          };
-        })
+      (record {
+        child_region = r;
+        number = refl;
+        doing = refl;
+        pc = suc s.pc;
+        child = refl;
+        newborn = record {
+          scope = child_scope r o;
+          goes_on = (
+            suc s.pc,
+            child_scope r o,
+            inl refl,
+            outer_refl (child_scope r o),
+            record { code = p.at_body; checked = la.checked.0; once = once_empty; counts = refl },
+            (child_scope r o, record { outer = outer_refl (child_scope r o); here = ap f (sym p.foot_is) ∙ p.at_foot; once = once_empty; open_loops = refl; counts = refl }),
+          );
+          slots = slots_born v h d g r o s (suc s.pc) m hm n sl;
+        };
+        then = record {
+          scope = with_handle y o;
+          goes_on = then_block v h f o (with_handle y o) p.out _ k fs s.loops (record { code = p.at_rest; checked = la.checked.2; once = once_with o.handles y la.once; counts = la.counts }) (record { vars = within_refl o.vars; handles = with_within o.handles y; depth = refl; region = refl }) p.ends c;
+          slots = handle_set v h d g o s p.out y m hm n la.checked.1 sl;
+        };
+      })
 
   -- an action on the child that a known handle names
   child_does : (used : ℕ) (hm : Numbers) (n : ℕ) (y : Name) (k : Body) (fs : List Frame) (m : Numbers) (s : Core) (o : Scope) (x : Placed) (doing : ℕ → Doing) (move : ℕ → Inner → Move Inner)
@@ -241,10 +269,10 @@ module _ (v h : ℕ) (f : Places) (limit d : ℕ) (g : Region) where
   child_does used hm n y k fs m s o x doing move here st ful code kn ck once cn c sl =
       let j = sl.handles y kn.0 kn.1 in
       acts used s x (record { doing = doing j.0; core = record s { pc = suc s.pc }; child = None }) _ here
-        (λ full jump go. st full jump go ∙ ap (λ o. with_child doing s (slice_get s.handles (unwrap_or o 0))) kn.1 ∙ ap (λ o. with_child doing s o) j.2)
-        (ful (number_of hm y) (keeps m hm n (block k ∷ fs)) (record { doing = doing j.0; core = record s { pc = suc s.pc }; child = None })
-          (ap (λ o. doing (unwrap_or o 0)) (sym j.1), refl)
-          (record { scope = o; goes_on = rest_on o s.pc x k fs s.loops code ck once cn c; slots = slots_at v h d g o s (suc s.pc) s.loops m hm n sl }))
+      (λ full jump go. st full jump go ∙ ap (λ o. with_child doing s (slice_get s.handles (unwrap_or o 0))) kn.1 ∙ ap (λ o. with_child doing s o) j.2)
+      (ful (number_of hm y) (keeps m hm n (block k ∷ fs)) (record { doing = doing j.0; core = record s { pc = suc s.pc }; child = None })
+      (ap (λ o. doing (unwrap_or o 0)) (sym j.1), refl)
+      (record { scope = o; goes_on = rest_on o s.pc x k fs s.loops code ck once cn c; slots = slots_at v h d g o s (suc s.pc) s.loops m hm n sl }))
 
   -- ---- the statements
 
@@ -252,34 +280,36 @@ module _ (v h : ℕ) (f : Places) (limit d : ℕ) (g : Region) where
   unfolding Resumes
   body_does used hm n go R nil fs m done s o la c sl t = let e : s.pc + 0 ≡ s.pc = omega arith in t (subst (λ p. Continues v h f o p fs s.loops) e c)
   body_does used hm n go R (poke_port l p e k) fs m done s o la c sl t =
-      acts used s (at o (instr.Poke l p (operand o.vars e))) (record { doing = pokes l p.0 (taken s.locals (operand o.vars e)); core = record s { pc = suc s.pc }; child = None }) _ la.code.0 (λ full jump to. refl)
-        ((ap (λ x. pokes l p.0 x) (operand_value o.vars m s.locals e sl.vars la.checked.0), refl),
-         λ a. record { scope = o; goes_on = rest_on o s.pc (at o (instr.Poke l p (operand o.vars e))) k fs s.loops la.code.1 la.checked.1 la.once la.counts c; slots = slots_at v h d g o s (suc s.pc) s.loops m hm n sl })
+      acts used s (at o (instr.Poke l p (operand o.vars e))) (record { doing = pokes l p.0 (taken s.locals (operand o.vars e)); core = record s { pc = suc s.pc }; child = None }) _ la.code.0 (λ full jump to. refl) (
+        (ap (λ x. pokes l p.0 x) (operand_value o.vars m s.locals e sl.vars la.checked.0), refl),
+        λ a. record { scope = o; goes_on = rest_on o s.pc (at o (instr.Poke l p (operand o.vars e))) k fs s.loops la.code.1 la.checked.1 la.once la.counts c; slots = slots_at v h d g o s (suc s.pc) s.loops m hm n sl },
+      )
   body_does used hm n go R (peek_port l sig into k) fs m done s o la c sl t = peek_does used hm n l sig into k fs m s o la c sl
   body_does used hm n go R (expect_port l sig e k) fs m done s o la c sl t =
-      acts used s (at o (instr.Expect l sig (operand o.vars e))) (record { doing = expects l sig.0 (taken s.locals (operand o.vars e)); core = record s { pc = suc s.pc }; child = None }) _ la.code.0 (λ full jump to. refl)
-        ((ap (λ x. expects l sig.0 x) (operand_value o.vars m s.locals e sl.vars la.checked.0), refl),
-         record { scope = o; goes_on = rest_on o s.pc (at o (instr.Expect l sig (operand o.vars e))) k fs s.loops la.code.1 la.checked.1 la.once la.counts c; slots = slots_at v h d g o s (suc s.pc) s.loops m hm n sl })
+      acts used s (at o (instr.Expect l sig (operand o.vars e))) (record { doing = expects l sig.0 (taken s.locals (operand o.vars e)); core = record s { pc = suc s.pc }; child = None }) _ la.code.0 (λ full jump to. refl) (
+        (ap (λ x. expects l sig.0 x) (operand_value o.vars m s.locals e sl.vars la.checked.0), refl),
+        record { scope = o; goes_on = rest_on o s.pc (at o (instr.Expect l sig (operand o.vars e))) k fs s.loops la.code.1 la.checked.1 la.once la.counts c; slots = slots_at v h d g o s (suc s.pc) s.loops m hm n sl },
+      )
   body_does used hm n go R (step_by l x k) fs m done s o la c sl t =
       acts used s (at o (instr.Step l x)) (record { doing = arrives l x; core = record s { pc = suc s.pc }; child = None }) _ la.code.0 (λ full jump to. refl)
-        ((refl, refl), record { scope = o; goes_on = rest_on o s.pc (at o (instr.Step l x)) k fs s.loops la.code.1 la.checked la.once la.counts c; slots = slots_at v h d g o s (suc s.pc) s.loops m hm n sl })
+      ((refl, refl), record { scope = o; goes_on = rest_on o s.pc (at o (instr.Step l x)) k fs s.loops la.code.1 la.checked la.once la.counts c; slots = slots_at v h d g o s (suc s.pc) s.loops m hm n sl })
   body_does used hm n go R (let_var l y e k) fs m done s o la c sl t =
       R l (block k ∷ fs) (map.insert m y (value m e)) s (record s { pc = suc s.pc; locals = slice_set s.locals (slot y (with_name o.vars y)) (taken s.locals (operand o.vars e)) }) (at o (instr.Store l (slot y (with_name o.vars y)) (operand o.vars e))) (with_var y o) la.code.0 (λ full jump to. refl)
-        (then_block v h f o (with_var y o) (suc s.pc) _ k fs s.loops (record { code = la.code.1; checked = la.checked.2; once = la.once; counts = la.counts }) (record { vars = with_within o.vars y; handles = within_refl o.handles; depth = refl; region = refl })
-          (past s.pc (block_code k (with_var y o) (suc s.pc)) (at o (instr.Store l (slot y (with_name o.vars y)) (operand o.vars e)))) c)
-        (slots_set v h d g o s (suc s.pc) y (taken s.locals (operand o.vars e)) (value m e) m hm n la.checked.1 (operand_value o.vars m s.locals e sl.vars la.checked.0) sl)
+      (then_block v h f o (with_var y o) (suc s.pc) _ k fs s.loops (record { code = la.code.1; checked = la.checked.2; once = la.once; counts = la.counts }) (record { vars = with_within o.vars y; handles = within_refl o.handles; depth = refl; region = refl })
+      (past s.pc (block_code k (with_var y o) (suc s.pc)) (at o (instr.Store l (slot y (with_name o.vars y)) (operand o.vars e)))) c)
+      (slots_set v h d g o s (suc s.pc) y (taken s.locals (operand o.vars e)) (value m e) m hm n la.checked.1 (operand_value o.vars m s.locals e sl.vars la.checked.0) sl)
   body_does used hm n go R (if_true l e a b k) fs m done s o la c sl t =
       let p = choice_parts f s.pc o (λ to. at o (instr.Unless l (operand o.vars e) to)) (λ p. block_code a o p) (λ p. block_code b o p) (λ p. block_code k o p) la.code in
       R l (block (cond (is_zero (value m e)) b a) ∷ block k ∷ fs) m s (record s { pc = cond (is_zero (value m e)) p.other (suc s.pc) }) (at o (instr.Unless l (operand o.vars e) p.other)) o p.at_head
-        (λ full jump to. ap (λ x. locally full l s (to (record s { pc = cond (is_zero x) p.other (suc s.pc) }))) (operand_value o.vars m s.locals e sl.vars la.checked.0))
-        (choice_on o s.pc l e a b k fs s.loops la.checked.1 la.checked.2 la.checked.3 la.once la.counts p (subst (λ q. Continues v h f o q fs s.loops) (sym p.ends) c) (is_zero (value m e)))
-        (slots_at v h d g o s (cond (is_zero (value m e)) p.other (suc s.pc)) s.loops m hm n sl)
+      (λ full jump to. ap (λ x. locally full l s (to (record s { pc = cond (is_zero x) p.other (suc s.pc) }))) (operand_value o.vars m s.locals e sl.vars la.checked.0))
+      (choice_on o s.pc l e a b k fs s.loops la.checked.1 la.checked.2 la.checked.3 la.once la.counts p (subst (λ q. Continues v h f o q fs s.loops) (sym p.ends) c) (is_zero (value m e)))
+      (slots_at v h d g o s (cond (is_zero (value m e)) p.other (suc s.pc)) s.loops m hm n sl)
   body_does used hm n go R (while_true l e a k) fs m done s o la c sl t =
       let p = framed_parts f s.pc (λ to. at o (instr.Enter l (operand o.vars e) to)) (λ p. block_code a o p) (λ back. at o (instr.Turn l (operand o.vars e) back)) (λ p. block_code k o p) la.code in
       R l (turns l e (value m e) a (block k ∷ fs)) m s (record s { pc = cond (is_zero (value m e)) p.out (suc s.pc) }) (at o (instr.Enter l (operand o.vars e) p.out)) o p.at_head
-        (λ full jump to. ap (λ x. locally full l s (to (record s { pc = cond (is_zero x) p.out (suc s.pc) }))) (operand_value o.vars m s.locals e sl.vars la.checked.0))
-        (while_on o s.pc l e a k fs s.loops la.checked.0 la.checked.1 la.checked.2 la.once la.counts p (subst (λ q. Continues v h f o q fs s.loops) (sym p.ends) c) (is_zero (value m e)))
-        (slots_at v h d g o s (cond (is_zero (value m e)) p.out (suc s.pc)) s.loops m hm n sl)
+      (λ full jump to. ap (λ x. locally full l s (to (record s { pc = cond (is_zero x) p.out (suc s.pc) }))) (operand_value o.vars m s.locals e sl.vars la.checked.0))
+      (while_on o s.pc l e a k fs s.loops la.checked.0 la.checked.1 la.checked.2 la.once la.counts p (subst (λ q. Continues v h f o q fs s.loops) (sym p.ends) c) (is_zero (value m e)))
+      (slots_at v h d g o s (cond (is_zero (value m e)) p.out (suc s.pc)) s.loops m hm n sl)
   body_does used hm n go R (repeat_by l e a k) fs m done s o la c sl t =
       let p = framed_parts f s.pc (λ to. at o (instr.Count l (operand o.vars e) to)) (λ p. block_code a (deeper o) p) (λ back. at (deeper o) (instr.Again l back)) (λ p. block_code k o p) la.code in
       enter_counted used hm n go R l (value m e) e a k fs m s o refl la.checked.0 la.checked.1 la.checked.2 la.once la.counts p (subst (λ q. Continues v h f o q fs s.loops) (sym p.ends) c) sl

@@ -4,3 +4,5 @@ pub mod Threads
 pub mod Code
 pub mod Machine
 pub mod Stands
+pub mod Laws
+pub mod Examples

@@ -7,3 +7,5 @@
 #![tactic(auto)]
 
 pub mod code;
+pub mod examples;
+pub mod laws;
