@@ -40,7 +40,8 @@ pub struct Mark {
 }
 
 fn slot_of(names: &Names, name: &[u8]) -> usize
-    ensures { result ≡ slot name.now names.now }
+    ensures slot { result ≡ slot name.now names.now }
+    ensures within { result ≤ length names.now }
 {
     match names.find(name) {
         Some(slot) => slot,

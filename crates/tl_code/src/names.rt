@@ -1,5 +1,5 @@
 //! Names and their slots.
-ghost use Rattle.std.specs.Prelude.{◌≡◌, [], length, take, OnOk};
+ghost use Rattle.std.specs.Prelude.{◌≡◌, ◌+◌, ◌<◌, ◌≤◌, [], length, take, OnOk, IfSome};
 ghost use Rattle.tl_threads.specs.Code.{slot, slot_found, with_name};
 
 use indexmap::IndexSet;
@@ -40,14 +40,16 @@ impl Names {
 
     /// The slot of a name, and `None` exactly where it isn't known. The time is that of a look-up.
     pub fn find(&self, name: &[u8]) -> Option<usize>
-        ensures { result ≡ slot_found name.now self.now }
+        ensures slot { result ≡ slot_found name.now self.now }
+        ensures within { IfSome result (λ slot. slot < length self.now) }
     {
         self.names.get_index_of(name)
     }
 
     /// The slot that a name has once it is known.
     pub fn slot_once_known(&self, name: &[u8]) -> usize
-        ensures { result ≡ slot name.now (with_name self.now name.now) }
+        ensures slot { result ≡ slot name.now (with_name self.now name.now) }
+        ensures within { result ≤ length self.now }
     {
         match self.find(name) {
             Some(slot) => slot,
@@ -57,7 +59,8 @@ impl Names {
 
     /// Makes a name known; nothing changes where it is. The time is that of a look-up.
     pub fn add(&mut self, alloc: Global, name: &[u8]) -> Result<(), Memory>
-        ensures { OnOk result (self.new ≡ with_name self.old name.now) }
+        ensures known { OnOk result (self.new ≡ with_name self.old name.now) }
+        ensures grows { length self.new ≤ length self.old + 1 }
     {
         if self.find(name).is_some() {
             return Ok(());
