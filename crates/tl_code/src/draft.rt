@@ -1,7 +1,7 @@
 //! Code as it is written.
-ghost use Rattle.std.specs.Prelude.{◌≡◌, ◌<◌, ◌≤◌, [], ◌∷◌, ◌++◌, length, take, slice_set, OnOk, IfOk};
-ghost use Rattle.tl_threads.specs.Code.{at, slot, slot_found, with_name};
-ghost use Rattle.tl_code.specs.Drafts.{Drafted, scope_of, behind};
+ghost use Rattle.std.specs.Prelude.{◌≡◌, ◌<◌, ◌≤◌, [], length, take, OnOk};
+ghost use Rattle.tl_threads.specs.Code.{at, slot, with_name};
+ghost use Rattle.tl_code.specs.Drafts.{Drafted, scope_of, behind, replaced, stored};
 
 use crate::level::Level;
 use crate::names::Names;
@@ -94,7 +94,7 @@ impl Draft {
     /// Writes an instruction over that of a place.
     pub fn replace(&mut self, level: Level, place: u32, instr: Instr)
         requires { place < length self.old.placed }
-        ensures { self.new ≡ record self.old { placed = slice_set self.old.placed place (at (scope_of level self.old) instr) } }
+        ensures { self.new ≡ replaced level place instr self.old }
     {
         let placed = self.at(level, instr);
         self.placed[place as usize] = placed;
@@ -124,9 +124,7 @@ impl Draft {
         value: Operand,
     ) -> Result<(), Memory>
         requires { length self.old.placed < 4294967295 }
-        ensures placed { OnOk result (self.new.placed ≡ self.old.placed ++ at (scope_of level self.old) (Instr.Store line (slot name.now (with_name self.old.variables name.now)) value) ∷ []) }
-        ensures variables { OnOk result (self.new.variables ≡ with_name self.old.variables name.now) }
-        ensures handles { OnOk result (self.new.handles ≡ self.old.handles) }
+        ensures { OnOk result (self.new ≡ stored level line name.now value self.old) }
     {
         let slot = self.variables.slot_once_known(name) as u32;
         self.put(level, Instr::Store { line, slot, value })?;

@@ -4,14 +4,14 @@
 //! written over once the place is known. The recursion is along the nesting of blocks.
 //!
 //! Each block and each fork writes an instruction before what stands in it, so no place stands deeper than its number.
-ghost use Rattle.std.specs.Prelude.{◌≡◌, ◌+◌, ◌*◌, ◌<◌, ◌≤◌, map, sum, length, slice_set, option_map, OnOk, IfOk};
+ghost use Rattle.std.specs.Prelude.{◌≡◌, ◌+◌, ◌*◌, ◌<◌, ◌≤◌, map, sum, length, option_map, OnOk, IfOk};
 ghost use Rattle.tl_check.specs.Bounds.{statements};
 ghost use Rattle.tl_check.specs.Scopes as scopes;
 ghost use Rattle.tl_threads.specs.Values.{expr_of};
 ghost use Rattle.tl_threads.specs.Bodies.{piece, body_of};
 ghost use Rattle.tl_threads.specs.Bodies.Body.{while_true, repeat_by, fork_as};
-ghost use Rattle.tl_threads.specs.Code.{at, slot};
-ghost use Rattle.tl_code.specs.Drafts.{scope_of, Adds, AddsBlock, AddsSide};
+ghost use Rattle.tl_threads.specs.Code.{slot};
+ghost use Rattle.tl_code.specs.Drafts.{if_closed, Adds, AddsBlock, AddsSide};
 
 use crate::draft::Draft;
 use crate::level::Level;
@@ -101,10 +101,10 @@ fn emit_stmt(
             Ok(())
         }
         TestStmt::While { line, cond, body } => {
-            emit_while(alloc, ports, level, *line, cond, body.as_slice(), draft)
+            emit_while(alloc, ports, level, *line, body.as_slice(), cond, draft)
         }
         TestStmt::Repeat { line, count, body } => {
-            emit_repeat(alloc, ports, level, *line, count, body.as_slice(), draft)
+            emit_repeat(alloc, ports, level, *line, body.as_slice(), count, draft)
         }
         TestStmt::Fork {
             line,
@@ -125,7 +125,13 @@ fn emit_stmt(
             let slot = draft.handle_slot(handle.bytes());
             draft.put(level, Instr::JoinStep { line, slot })
         }
-        TestStmt::Driver { .. } | TestStmt::ResetFor { .. } => Ok(()),
+        TestStmt::Driver {
+            line: _,
+            kind: _,
+            port: _,
+            values: _,
+        } => Ok(()),
+        TestStmt::ResetFor { line: _, count: _ } => Ok(()),
     }
 }
 
@@ -153,7 +159,7 @@ fn emit_side(
 fn close_if(draft: &mut Draft, level: Level, line: u32, cond: Operand, head: u32, middle: u32)
     requires head { head < length draft.old.placed }
     requires middle { middle < length draft.old.placed }
-    ensures { let unless = at (scope_of level draft.old) (Instr.Unless line cond (middle + 1)) in let goto = at (scope_of level draft.old) (Instr.Goto (length draft.old.placed)) in draft.new ≡ record draft.old { placed = slice_set (slice_set draft.old.placed head unless) middle goto } }
+    ensures { draft.new ≡ if_closed level line cond head middle draft.old }
 {
     let to = draft.place();
     let other = middle + 1;
@@ -168,8 +174,8 @@ fn emit_while(
     ports: &PortTable,
     level: Level,
     line: u32,
-    cond: &TestExpr,
     body: &[TestStmt],
+    cond: &TestExpr,
     draft: &mut Draft,
 ) -> Result<(), Memory>
     requires room { length draft.old.placed + 2 + 2 * sum (map statements body.now) ≤ 4294967295 }
@@ -194,8 +200,8 @@ fn emit_repeat(
     ports: &PortTable,
     level: Level,
     line: u32,
-    count: &TestExpr,
     body: &[TestStmt],
+    count: &TestExpr,
     draft: &mut Draft,
 ) -> Result<(), Memory>
     requires room { length draft.old.placed + 2 + 2 * sum (map statements body.now) ≤ 4294967295 }
