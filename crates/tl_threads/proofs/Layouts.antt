@@ -56,6 +56,12 @@ framed_parts f pc head body foot k h =
       ends = omega (arith, length-append (body (suc pc)) (foot (suc pc) ∷ k (suc (suc pc + length (body (suc pc))))));
     }
 
+pub choice_ends : (p : ℕ) (xs ys zs : List Placed) (y : Placed) → suc (suc p + length xs) + length ys + length zs ≡ p + suc (length (xs ++ (y ∷ (ys ++ zs))))
+choice_ends p xs ys zs y = omega (arith, length-append xs (y ∷ (ys ++ zs)), length-append ys zs)
+
+pub framed_ends : (p : ℕ) (xs zs : List Placed) (y : Placed) → suc (suc p + length xs) + length zs ≡ p + suc (length (xs ++ (y ∷ zs)))
+framed_ends p xs zs y = omega (arith, length-append xs (y ∷ zs))
+
 -- the pieces of a choice
 pub record Choice (f : Places) (pc : ℕ) (c : Scope) (head : ℕ → Placed) (a b k : ℕ → List Placed) : Type 0 where
   pub goto_at : ℕ
@@ -92,9 +98,6 @@ choice_parts f pc c head a b k h =
       at_rest = has_back f o (b o) (k q) tail.1;
       ends = choice_ends pc (a (suc pc)) (b o) (k q) (at c (instr.Goto q));
     }
-  where
-    choice_ends : (p : ℕ) (xs ys zs : List Placed) (y : Placed) → suc (suc p + length xs) + length ys + length zs ≡ p + suc (length (xs ++ (y ∷ (ys ++ zs))))
-    choice_ends p xs ys zs y = omega (arith, length-append xs (y ∷ (ys ++ zs)), length-append ys zs)
 
 -- the same continuation under a scope that knows more
 pub continues_in : (v h : ℕ) (f : Places) (c o : Scope) (q : ℕ) (fs : List Frame) (loops : List ℕ) → Outer c o → Continues v h f c q fs loops → Continues v h f o q fs loops

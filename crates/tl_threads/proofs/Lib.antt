@@ -4,3 +4,8 @@ pub mod Layouts
 pub mod Refines
 pub mod Runs
 pub mod Pieces
+pub mod Fitting
+pub mod Allowing
+pub mod Checking
+pub mod Ruling
+pub mod Regions

@@ -43,17 +43,17 @@ suc_some : (o : Option ℕ) (k : ℕ) → option_map (λ j. suc j) o ≡ Some k 
 suc_some None k e = absurd (cc)
 suc_some (Some j) k e = (j, refl, cc)
 
-record FoundFirst (n x : Name) (k : ℕ) : Type 0 where
-  same : n ≡ x
-  zero_is : k ≡ zero
+pub record FoundFirst (n x : Name) (k : ℕ) : Type 0 where
+  pub same : n ≡ x
+  pub zero_is : k ≡ zero
 
-record FoundLater (n x : Name) (k : ℕ) (xs : List Name) : Type 0 where
-  other : bytes_eq n x ≡ false
-  less : ℕ
-  found : slot_found n xs ≡ Some less
-  suc_is : k ≡ suc less
+pub record FoundLater (n x : Name) (k : ℕ) (xs : List Name) : Type 0 where
+  pub other : bytes_eq n x ≡ false
+  pub less : ℕ
+  pub found : slot_found n xs ≡ Some less
+  pub suc_is : k ≡ suc less
 
-find_cases : (n x : Name) (xs : List Name) (k : ℕ) → slot_found n (x ∷ xs) ≡ Some k → FoundFirst n x k ⊎ FoundLater n x k xs
+pub find_cases : (n x : Name) (xs : List Name) (k : ℕ) → slot_found n (x ∷ xs) ≡ Some k → FoundFirst n x k ⊎ FoundLater n x k xs
 find_cases n x xs k e = go (bytes_eq n x) refl
   where
     go : (b : Bool) → bytes_eq n x ≡ b → FoundFirst n x k ⊎ FoundLater n x k xs
@@ -144,6 +144,13 @@ with_back xs n m k ne e = grown_back xs n m k (slot_found n xs) ne e
 
 pub with_slot : (xs : List Name) (n : Name) (v : ℕ) → length (with_name xs n) ≤ v → slot n (with_name xs n) < v
 with_slot xs n v le = let b = find_below n (with_name xs n) (slot n (with_name xs n)) (with_known xs n) in omega arith
+
+pub with_length : (xs : List Name) (n : Name) → length xs ≤ length (with_name xs n)
+with_length xs n = go (slot_found n xs)
+  where
+    go : (o : Option ℕ) → length xs ≤ length (grown xs n o)
+    go None = omega (arith, length-append xs (n ∷ []))
+    go (Some k) = omega arith
 
 pub known_slot : (xs : List Name) (n : Name) → Known xs n → slot_found n xs ≡ Some (slot n xs)
 known_slot xs n (k, e) = e ∙ ap (λ o. Some (unwrap_or o 0)) (sym e)

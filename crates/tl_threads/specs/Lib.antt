@@ -6,3 +6,6 @@ pub mod Machine
 pub mod Stands
 pub mod Laws
 pub mod Examples
+pub mod Fits
+pub mod Allowed
+pub mod Regions

@@ -1,5 +1,8 @@
 //! Laws of threads and of code. Each function has no body: its contract is the law.
 ghost use Rattle.tl_threads.specs.Laws.{OperandsAreValues, OneAction, CodeRefines};
+ghost use Rattle.tl_threads.specs.Fits.{StandsFits, FitsStands, RootStands};
+ghost use Rattle.tl_threads.specs.Allowed.{RulesAllow, AllowedIsChecked};
+ghost use Rattle.tl_threads.specs.Regions.{MovesFit, RootFits};
 
 /// The number of an expression's postfix form is the number of the expression, where its variables are known and the slots have their
 /// numbers.
@@ -16,4 +19,42 @@ pub fn code_gives_one_action()
 /// move from there, and stands for the thread behind it.
 pub fn code_does_the_next_move()
     ensures { CodeRefines }
+{}
+
+/// Where a place with its slots and counts stands for a thread, it fits the place: depth and region are the thread's, each handle that is
+/// known there names a child, and a count is kept for each `repeat` that is open there.
+pub fn what_stands_fits()
+    ensures { StandsFits }
+{}
+
+/// Each place of a test's code, with slots and counts that fit it, stands for a thread.
+pub fn what_fits_stands()
+    ensures { FitsStands }
+{}
+
+/// The beginning of a test's code stands for the root thread.
+pub fn the_beginning_stands_for_the_root()
+    ensures { RootStands }
+{}
+
+/// A test that keeps the rules for its ports has an allowed body: each name that is used is known, no child is forked into a lesser region,
+/// and no child is joined that may be of a greater region.
+pub fn rules_allow_the_body()
+    ensures { RulesAllow }
+{}
+
+/// An allowed body is checked, where there are no fewer slots than names that are known at one place.
+pub fn what_is_allowed_is_checked()
+    ensures { AllowedIsChecked }
+{}
+
+/// Each move of a thread that respects regions respects them, whatever the circuit: children are forked into no lesser region, and a child
+/// that is joined was forked and is of no greater region. So it goes on.
+pub fn moves_respect_regions()
+    ensures { MovesFit }
+{}
+
+/// The root thread of a test that keeps the rules respects regions.
+pub fn the_root_respects_regions()
+    ensures { RootFits }
 {}
