@@ -1,3 +1,5 @@
-pub mod Slots
+pub mod Known
+pub mod Needed
+pub mod Made
 pub mod Laying
 pub mod Parts

@@ -1,1 +1,4 @@
 pub mod Drafts
+pub mod Compiled
+pub mod Slots
+pub mod Codes

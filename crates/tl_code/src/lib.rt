@@ -1,8 +1,15 @@
 //! The flat code of a core test.
 #![tactic(auto)]
 
+mod code;
 mod draft;
 mod emit;
+mod fits;
 mod level;
 mod names;
 mod operands;
+mod slots;
+mod state;
+
+pub use code::{Code, compile};
+pub use state::{Fetched, ThreadState};

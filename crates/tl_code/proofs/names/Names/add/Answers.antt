@@ -1,5 +1,5 @@
 use Rattle.std.proofs.Common.{◌∙◌, ap, sym, is_some}
-use Rattle.tl_code.proofs.Slots.{added, is_new, shown}
+use Rattle.tl_code.proofs.Known.{added, is_new, shown}
 use Rattle.tl_code.proofs.names.Names.add.Goals as goal
 
 pub returns-clause-known : goal.returns-clause-known

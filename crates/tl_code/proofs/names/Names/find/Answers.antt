@@ -1,6 +1,6 @@
 use Rattle.std.proofs.Common.{◌∙◌, ap}
 use Rattle.tl_threads.specs.Code.{slot_found}
-use Rattle.tl_code.proofs.Slots.{found}
+use Rattle.tl_code.proofs.Known.{found}
 use Rattle.tl_code.proofs.names.Names.find.Goals as goal
 
 pub returns-clause-slot : goal.returns-clause-slot

@@ -1,4 +1,4 @@
-use Rattle.tl_code.proofs.Slots.{kept}
+use Rattle.tl_code.proofs.Known.{kept}
 use Rattle.tl_code.proofs.names.Names.keep.Goals as goal
 
 pub returns : goal.returns

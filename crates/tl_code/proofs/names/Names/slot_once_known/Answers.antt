@@ -1,5 +1,5 @@
 use Rattle.std.proofs.Common.{◌∙◌, sym}
-use Rattle.tl_code.proofs.Slots.{slot_of_new}
+use Rattle.tl_code.proofs.Known.{slot_of_new}
 use Rattle.tl_code.proofs.names.Names.slot_once_known.Goals as goal
 
 pub returns-in-None-clause-slot : goal.returns-in-None-clause-slot

@@ -10,6 +10,7 @@ use Rattle.indexmap.specs.IndexSet.{insert_key}
 use Rattle.tl_threads.specs.Values.{Name}
 use Rattle.tl_threads.specs.Code.{slot_found, slot, grown, with_name}
 use Rattle.tl_threads.proofs.NameFacts.{name_self}
+pub use Rattle.tl_threads.proofs.NameFacts.{find_below}
 
 abbrev pub shown : List (Vec ℕ Global) → List Name
 shown ks = map (λ k. k.items) ks
@@ -81,7 +82,7 @@ known_added name names k e = ap (grown names name) e
 pub slot_of_known : (name : Name) (names : List Name) (k : ℕ) → slot_found name names ≡ Some k → k ≡ slot name (with_name names name)
 slot_of_known name names k e = sym (ap (slot name) (known_added name names k e) ∙ ap (λ o. unwrap_or o 0) e)
 
-last : (name : Name) (names : List Name) → slot_found name names ≡ None → slot_found name (names ++ name ∷ []) ≡ Some (length names)
+pub last : (name : Name) (names : List Name) → slot_found name names ≡ None → slot_found name (names ++ name ∷ []) ≡ Some (length names)
 last name [] e = ap (λ b. cond b (Some zero) (option_map (λ k. suc k) (slot_found name []))) (name_self name)
 last name (x ∷ xs) e = by (bytes_eq name x) (last name xs) e
   where
