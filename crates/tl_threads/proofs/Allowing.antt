@@ -1,22 +1,18 @@
 -- What the rules of tests say of a body.
-use Rattle.std.proofs.Common.{◌≡◌, ◌⊎◌, ℕ, suc, ◌+◌, ◌<◌, ◌≤◌, List, [], ◌∷◌, ◌++◌, map, length, Bool, true, false, not, cond, ◌||◌, ◌&&◌, Option, Some, None, is_some, option_map, Ok, Err, find, refl, sym, ap, subst, ◌∙◌, inl, inr, ⊎_elim, arith}
+use Rattle.std.proofs.Common.{◌≡◌, ℕ, suc, List, [], ◌∷◌, ◌++◌, Bool, true, false, not, cond, ◌||◌, Option, Some, None, is_some, option_map, refl, sym, ap, subst, ◌∙◌}
 use Rattle.std.specs.Str.{bytes_eq}
-use Rattle.std.specs.List.{list_any}
 use Rattle.std.proofs.lemmas.Bool.{or_parts}
-use Rattle.tb_base.specs.declared.path.Region.{Region}
-use Rattle.tb_base.specs.declared.path.Region.TheVariants.{Main, Monitor}
 use Rattle.tl_ast.specs.declared.tree.TestExpr.{TestExpr}
 use Rattle.tl_ast.specs.declared.tree.TestExpr.TheFolds.{fold-roll-TestExpr, ind-TestExpr, map-TestExpr}
 use Rattle.tl_ast.specs.declared.tree.TestExpr.TheViews.{roll-TestExpr}
 use Rattle.tl_ast.specs.declared.tree.TestExpr.TheOpen as E
 use Rattle.tl_ast.specs.declared.tree.TestExpr.TheOpen.{TestExpr-F}
-use Rattle.tl_check.specs.Scopes.{is_among, with_variable, handle_named, is_handle, with_handle}
+use Rattle.tl_check.specs.Scopes.{is_among, with_variable, handle_named, with_handle}
 use Rattle.tl_check.specs.Values.{unknown_level, uses_unknown}
 use Rattle.tl_threads.specs.Values.{Name, Expr, level_expr, expr_of}
 use Rattle.tl_threads.specs.Code.{slot_found, grown, with_name}
 use Rattle.tl_threads.specs.Stands.{Known, KnownIn}
 use Rattle.tl_threads.specs.Allowed.{Handles, names_of}
-use Rattle.tl_threads.proofs.NameFacts.{same_name, name_self}
 
 -- ---- names, as the rules know them and as the code does
 

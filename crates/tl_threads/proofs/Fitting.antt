@@ -1,6 +1,5 @@
 -- Each place of a test's code stands for some thread, and what stands for a thread fits its place.
-use Rattle.std.proofs.Common.{◌≡◌, ◌⊎◌, ℕ, zero, suc, ◌+◌, ◌<◌, ◌≤◌, List, [], ◌∷◌, ◌++◌, length, length-append, Option, Some, None, option_map, refl, sym, ap, subst, ◌∙◌, inl, inr, ⊎_elim, arith, slice_index, slice_get}
-use Rattle.std.specs.Prelude.{replicate}
+use Rattle.std.proofs.Common.{◌≡◌, ◌⊎◌, ℕ, zero, suc, ◌+◌, ◌<◌, List, [], ◌∷◌, ◌++◌, length, Option, Some, None, option_map, refl, sym, ap, subst, ◌∙◌, inl, inr, ⊎_elim, arith, slice_index, slice_get}
 use Rattle.std.specs.FinMap as map
 use Rattle.std.proofs.lemmas.List.{length-replicate}
 use Rattle.tb_base.specs.declared.path.Region.{Region}
@@ -14,11 +13,11 @@ use Rattle.tl_threads.specs.Bodies.Body.{nil, poke_port, peek_port, expect_port,
 use Rattle.tl_threads.specs.Threads.{Frame, Inner, root_of}
 use Rattle.tl_threads.specs.Threads.Frame.{block, turn, again}
 use Rattle.tl_threads.specs.Machine.{Core}
-use Rattle.tl_threads.specs.Code.{Scope, slot_found, slot, with_name, operand, at, first_scope, with_var, with_handle, deeper, child_scope, block_code, second_side, test_code}
-use Rattle.tl_threads.specs.Stands.{Places, KnownIn, Checked, HasAt, Outer, Once, Jumps, Laid, Turned, Counted, Ended, Continues, Agrees, Names, Slots, Stands, name_at}
+use Rattle.tl_threads.specs.Code.{Scope, slot_found, slot, with_name, operand, at, first_scope, with_var, with_handle, deeper, child_scope, block_code, test_code}
+use Rattle.tl_threads.specs.Stands.{Places, KnownIn, Checked, HasAt, Outer, Once, Jumps, Laid, Continues, Stands, name_at}
 use Rattle.tl_threads.specs.Fits.{FitsPlace, FitsCode, CodeOf, root_core}
-use Rattle.tl_threads.proofs.NameFacts.{within_refl, with_within, once_with, once_empty, find_below, find_cases, FoundFirst, FoundLater, get_same, get_other, differ, find_name_at}
-use Rattle.tl_threads.proofs.Layouts.{outer_refl, outer_trans, has_front, has_back, choice_ends, framed_ends, continues_in, then_block, past}
+use Rattle.tl_threads.proofs.NameFacts.{within_refl, with_within, once_with, once_empty, find_below, find_cases, get_same, get_other, differ}
+use Rattle.tl_threads.proofs.Layouts.{outer_refl, outer_trans, has_front, has_back, choice_ends, framed_ends, continues_in, past}
 
 -- ---- maps of slots
 

@@ -1,12 +1,12 @@
 -- Where the pieces of code stand.
-use Rattle.std.proofs.Common.{◌≡◌, ◌⊎◌, ℕ, zero, suc, ◌+◌, ◌<◌, ◌≤◌, List, [], ◌∷◌, ◌++◌, length, length-append, Option, Some, None, refl, sym, ap, subst, ◌∙◌, inl, inr, arith}
+use Rattle.std.proofs.Common.{◌≡◌, ℕ, suc, ◌+◌, List, [], ◌∷◌, ◌++◌, length, length-append, Some, refl, sym, subst, ◌∙◌, inl, arith}
 use Rattle.tl_threads.specs.declared.code.Placed.{Placed}
 use Rattle.tl_threads.specs.declared.code.Instr.TheVariants as instr
 use Rattle.tl_threads.specs.Threads.{Frame}
 use Rattle.tl_threads.specs.Threads.Frame.{block, turn, again}
 use Rattle.tl_threads.specs.Bodies.{Body}
-use Rattle.tl_threads.specs.Code.{Scope, at, block_code, framed, choice, second_side}
-use Rattle.tl_threads.specs.Stands.{Places, HasAt, Outer, Once, Jumps, Laid, Turned, Counted, Ended, Continues, Checked}
+use Rattle.tl_threads.specs.Code.{Scope, at, block_code, framed, choice}
+use Rattle.tl_threads.specs.Stands.{Places, HasAt, Outer, Laid, Continues}
 use Rattle.tl_threads.proofs.NameFacts.{within_refl, within_trans}
 
 pub outer_refl : (c : Scope) → Outer c c

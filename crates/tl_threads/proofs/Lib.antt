@@ -9,3 +9,5 @@ pub mod Allowing
 pub mod Checking
 pub mod Ruling
 pub mod Regions
+pub mod Compared
+pub mod Bounding

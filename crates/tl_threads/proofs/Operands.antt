@@ -1,13 +1,11 @@
 -- The number of an operand is that of its expression.
-use Rattle.std.proofs.Common.{◌≡◌, ℕ, List, [], ◌∷◌, ◌++◌, append_assoc, Option, Some, refl, sym, ap, ◌∙◌, slice_index, unwrap_or}
-use Rattle.std.specs.FinMap as map
-use Rattle.tl_ast.specs.declared.tree.TestOp.{TestOp}
+use Rattle.std.proofs.Common.{◌≡◌, ℕ, List, [], ◌∷◌, ◌++◌, append_assoc, refl, sym, ap, ◌∙◌, slice_index, unwrap_or}
 use Rattle.tl_threads.specs.declared.code.Item.{Item}
 use Rattle.tl_threads.specs.declared.code.Item.TheVariants.{Negate, Apply}
-use Rattle.tl_threads.specs.Values.{Name, Numbers, Expr, value, number_of, negated, operated}
+use Rattle.tl_threads.specs.Values.{Name, Numbers, Expr, value, number_of}
 use Rattle.tl_threads.specs.Values.Expr.{number, variable, minus, two}
-use Rattle.tl_threads.specs.Code.{slot_found, slot, operand}
-use Rattle.tl_threads.specs.Machine.{stacked, worked, taken, negate_top, apply_tops}
+use Rattle.tl_threads.specs.Code.{slot, operand}
+use Rattle.tl_threads.specs.Machine.{worked, taken}
 use Rattle.tl_threads.specs.Stands.{Known, KnownIn, Agrees}
 
 known_value : (names : List Name) (vars : Numbers) (locals : List ℕ) (x : Name) → Agrees names vars locals → Known names x → slice_index locals (slot x names) ≡ number_of vars x

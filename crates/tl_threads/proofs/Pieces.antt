@@ -1,5 +1,5 @@
 -- Each statement as a piece of a body, and each expression.
-use Rattle.std.proofs.Common.{ℕ, Option, List, [], ◌∷◌, ◌≡◌, ap, map}
+use Rattle.std.proofs.Common.{ℕ, Option, List, ◌≡◌, ap}
 use Rattle.tb_base.specs.declared.path.Region.{Region}
 use Rattle.tl_ast.specs.declared.tree.TestOp.{TestOp}
 use Rattle.tl_ast.specs.declared.tree.DriverKind.{DriverKind}
@@ -12,8 +12,8 @@ use Rattle.tl_check.specs.Walk.{Ports}
 use Rattle.tl_check.proofs.Unrolled.{fold-Num, fold-Var, fold-Neg, fold-Two, fold-Poke, fold-Peek, fold-Expect, fold-Step, fold-Let, fold-Set, fold-If, fold-While, fold-Repeat, fold-Fork, fold-Join, fold-JoinStep, fold-Driver, fold-ResetFor}
 use Rattle.tl_threads.specs.Values.{Name, Expr, level_expr, expr_of}
 use Rattle.tl_threads.specs.Values.Expr.{number, variable, minus, two}
-use Rattle.tl_threads.specs.Bodies.{Body, Piece, signal_of, level_piece, piece, pieces, body_of}
-use Rattle.tl_threads.specs.Bodies.Body.{nil, poke_port, peek_port, expect_port, step_by, let_var, if_true, while_true, repeat_by, fork_as, join_of, joinstep_of}
+use Rattle.tl_threads.specs.Bodies.{Body, Piece, signal_of, level_piece, piece, body_of}
+use Rattle.tl_threads.specs.Bodies.Body.{poke_port, peek_port, expect_port, step_by, let_var, if_true, while_true, repeat_by, fork_as, join_of, joinstep_of}
 
 pub expr-Num : (n : ℕ) → expr_of (e.Num n) ≡ number n
 expr-Num n = fold-Num Expr level_expr n

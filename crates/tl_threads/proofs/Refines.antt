@@ -1,16 +1,13 @@
 -- The code does what the definitions say.
-use Rattle.std.proofs.Common.{◌≡◌, ◌⊎◌, ℕ, zero, suc, ◌+◌, ◌<◌, ◌≤◌, List, [], ◌∷◌, length, Bool, true, false, cond, nat_le, Option, Some, None, is_none, option_map, refl, sym, ap, subst, ◌∙◌, inl, inr, arith, slice_index, slice_get, slice_set, unwrap_or}
-use Rattle.std.specs.Prelude.{replicate}
+use Rattle.std.proofs.Common.{◌≡◌, ℕ, zero, suc, ◌+◌, ◌<◌, ◌≤◌, List, [], ◌∷◌, length, Bool, true, false, cond, nat_le, Option, Some, None, is_none, refl, sym, ap, subst, ◌∙◌, inl, inr, arith, slice_get, slice_set, unwrap_or}
 use Rattle.std.specs.FinMap as map
 use Rattle.std.proofs.lemmas.Bool.{le-leb, leb-true, lt-ltb}
 use Rattle.std.proofs.lemmas.List.{length-replicate, length-set}
 use Rattle.tb_base.specs.declared.path.Region.{Region}
 use Rattle.net_core.specs.declared.ports.Signal.{Signal}
 use Rattle.bench_model.specs.World.{Move}
-use Rattle.bench_model.specs.World.Move.{poke, peek, expect, fork, join, arrive, joinstep, spend, end}
-use Rattle.tl_threads.specs.declared.code.Item.{Item}
+use Rattle.bench_model.specs.World.Move.{peek, fork, join, joinstep, spend, end}
 use Rattle.tl_threads.specs.declared.code.Placed.{Placed}
-use Rattle.tl_threads.specs.declared.code.Instr.{Instr}
 use Rattle.tl_threads.specs.declared.code.Instr.TheVariants as instr
 use Rattle.tl_threads.specs.Values.{Name, Numbers, Expr, number_of, value}
 use Rattle.tl_threads.specs.Bodies.{Body}
@@ -18,12 +15,12 @@ use Rattle.tl_threads.specs.Bodies.Body.{nil, poke_port, peek_port, expect_port,
 use Rattle.tl_threads.specs.Threads.{Frame, Inner, Goes, region_number, is_zero, set_if, turns, repeats, keeps, begins, move_of, over, next_within, next}
 use Rattle.tl_threads.specs.Threads.Frame.{block, turn, again}
 use Rattle.tl_threads.specs.Machine.{Core, Did, Doing, Go, taken, step, run, counted, counted_on, locally, go_if, with_child, forked}
-use Rattle.tl_threads.specs.Machine.Doing.{pokes, peeks, expects, arrives, forks, joins, joinsteps, spends, ends}
-use Rattle.tl_threads.specs.Code.{Scope, slot_found, slot, with_name, operand, at, with_var, with_handle, deeper, child_scope, block_code, framed, choice}
-use Rattle.tl_threads.specs.Stands.{Places, instr_of, code_of, Known, KnownIn, Settable, Checked, HasAt, Outer, Once, Jumps, Laid, Turned, Counted, Ended, Continues, Agrees, Names, Slots, Stands, born, put, Only, Peeks, Forks, Fulfils, Does}
-use Rattle.tl_threads.proofs.NameFacts.{within_refl, with_within, known_slot, agrees_set, agrees_known, names_set, once_with, once_empty}
+use Rattle.tl_threads.specs.Machine.Doing.{pokes, peeks, expects, arrives, joins, joinsteps, spends, ends}
+use Rattle.tl_threads.specs.Code.{Scope, slot, with_name, operand, at, with_var, with_handle, deeper, child_scope, block_code}
+use Rattle.tl_threads.specs.Stands.{Places, instr_of, code_of, Known, KnownIn, Checked, HasAt, Outer, Once, Jumps, Laid, Turned, Counted, Continues, Agrees, Names, Slots, Stands, born, Only, Fulfils, Does}
+use Rattle.tl_threads.proofs.NameFacts.{within_refl, with_within, agrees_set, agrees_known, names_set, once_with, once_empty}
 use Rattle.tl_threads.proofs.Operands.{operand_value}
-use Rattle.tl_threads.proofs.Layouts.{outer_refl, has_front, has_back, Framed, framed_parts, Choice, choice_parts, continues_in, then_block, past}
+use Rattle.tl_threads.proofs.Layouts.{outer_refl, Framed, framed_parts, Choice, choice_parts, then_block, past}
 
 -- ---- slots, in each scope and each region
 

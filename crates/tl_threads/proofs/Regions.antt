@@ -1,5 +1,5 @@
 -- Each move of a thread respects regions.
-use Rattle.std.proofs.Common.{◌≡◌, ◌⊎◌, ℕ, zero, suc, ◌+◌, ◌<◌, ◌≤◌, List, [], ◌∷◌, ◌++◌, length, length-append, Bool, true, false, cond, Option, Some, None, is_some, refl, sym, ap, subst, ◌∙◌, inl, inr, ⊎_elim, arith, slice_index, unwrap_or}
+use Rattle.std.proofs.Common.{◌≡◌, ℕ, zero, suc, ◌<◌, ◌≤◌, List, [], ◌∷◌, ◌++◌, length, length-append, Bool, true, false, cond, Some, None, is_some, refl, sym, ap, subst, ◌∙◌, ⊎_elim, arith, slice_index, unwrap_or}
 use Rattle.std.specs.FinMap as map
 use Rattle.std.specs.Str.{bytes_eq}
 use Rattle.tb_base.specs.declared.path.Region.{Region}
@@ -7,14 +7,14 @@ use Rattle.tb_base.specs.declared.path.Region.TheVariants.{Main, Monitor}
 use Rattle.tl_ast.specs.declared.tree.TestText.{TestText}
 use Rattle.tl_check.specs.Scopes.{Known as KnownNames, nothing_known, inside_fork, handle_named, with_handle, is_monitor}
 use Rattle.tl_check.specs.Walk.{Ports, behind_let, behind_fork, test_rule}
-use Rattle.bench_model.specs.World.{Model, Move, FitsMove}
-use Rattle.bench_model.specs.World.Move.{poke, peek, expect, fork, join, arrive, joinstep, spend, end}
+use Rattle.bench_model.specs.World.{Move, FitsMove}
+use Rattle.bench_model.specs.World.Move.{spend}
 use Rattle.tl_threads.specs.Values.{Name, Numbers, Expr, number_of, value}
 use Rattle.tl_threads.specs.Bodies.{Body, test_body}
 use Rattle.tl_threads.specs.Bodies.Body.{nil, poke_port, peek_port, expect_port, step_by, let_var, if_true, while_true, repeat_by, fork_as, join_of, joinstep_of}
 use Rattle.tl_threads.specs.Threads.{Frame, Inner, Goes, region_number, is_zero, turns, repeats, keeps, begins, move_of, over, next_within, next, root_of}
 use Rattle.tl_threads.specs.Threads.Frame.{block, turn, again}
-use Rattle.tl_threads.specs.Allowed.{Handles, Takes, MayJoin, Allowed}
+use Rattle.tl_threads.specs.Allowed.{Handles, Takes, Allowed}
 use Rattle.tl_threads.specs.Regions.{bound_of, HandlesWithin, FramesFit, HandlesFit, RespectsRegions, threads_over}
 use Rattle.tl_threads.proofs.NameFacts.{same_name, differ, get_same, get_other}
 use Rattle.tl_threads.proofs.Ruling.{named_behind, named_before, rules_allow}

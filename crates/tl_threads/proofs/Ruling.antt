@@ -1,5 +1,5 @@
 -- A test that keeps the rules has an allowed body.
-use Rattle.std.proofs.Common.{◌≡◌, ◌⊎◌, ℕ, ◌≤◌, List, [], ◌∷◌, ◌++◌, map, Bool, true, false, not, cond, ◌||◌, ◌&&◌, Option, Some, None, is_some, Result, Ok, Err, find, refl, sym, ap, ap₂, subst, ◌∙◌, inl, inr, ⊎_elim, arith}
+use Rattle.std.proofs.Common.{◌≡◌, ◌⊎◌, ℕ, ◌≤◌, List, [], ◌∷◌, ◌++◌, map, Bool, true, false, not, cond, ◌||◌, ◌&&◌, Option, Some, None, is_some, Ok, Err, find, refl, sym, ap, ap₂, subst, ◌∙◌, inl, inr, ⊎_elim, arith}
 use Rattle.std.specs.Str.{bytes_eq}
 use Rattle.std.specs.List.{list_any}
 use Rattle.std.proofs.lemmas.Bool.{or_parts}
@@ -14,9 +14,9 @@ use Rattle.tl_ast.specs.declared.tree.TestStmt.TheOpen.{TestStmt-F}
 use Rattle.tl_ast.specs.declared.tree.TestText.{TestText}
 use Rattle.tl_check.specs.declared.rule.Rule.{Rule}
 use Rattle.tl_check.specs.declared.rule.Rule.TheVariants.{UnknownPort, PokeOutput, LiteralTooWide, UnknownVariable, UnknownHandle, TooManyNames, JoinLaterRegion, ForkEarlierRegion, NotReadyValid, StepZero}
-use Rattle.tl_check.specs.Scopes.{Known as KnownNames, nothing_known, inside_fork, is_among, with_variable, handle_named, is_handle, with_handle, is_monitor, child_region}
+use Rattle.tl_check.specs.Scopes.{Known as KnownNames, nothing_known, inside_fork, is_among, handle_named, is_handle, with_handle, is_monitor, child_region}
 use Rattle.tl_check.specs.Values.{uses_unknown, sets_unknown}
-use Rattle.tl_check.specs.Rules.{Here, first_broken, breaks, all_rules, unknown_variable, unknown_handle, too_many_names, join_later, fork_earlier, watches, writes_main}
+use Rattle.tl_check.specs.Rules.{Here, first_broken, breaks, unknown_variable, unknown_handle, too_many_names, join_later, fork_earlier, watches, writes_main}
 use Rattle.tl_check.specs.Walk.{Ports, Outcome, Part, some_gives, after, in_turn, leave, in_block, gives_level, behind_let, behind_fork, behind, unless_broken, here, part_level, part, line_of, broken_in, test_rule}
 use Rattle.tl_threads.specs.Values.{Name, expr_of}
 use Rattle.tl_threads.specs.Bodies.{Body, Piece, chain, level_piece, piece, test_body}
@@ -29,18 +29,18 @@ use Rattle.tl_threads.proofs.Allowing.{among_known, not_false, expr_known}
 
 -- ---- outcomes
 
-ok_same : (n m : KnownNames) → ◌≡◌ {A = Outcome} (Ok n) (Ok m) → n ≡ m
+pub ok_same : (n m : KnownNames) → ◌≡◌ {A = Outcome} (Ok n) (Ok m) → n ≡ m
 ok_same n m e = cc
 
 passes : (o : Option Rule) (l : ℕ) (out : Outcome) (m : KnownNames) → unless_broken o l out ≡ Ok m → (o ≡ None) × (out ≡ Ok m)
 passes None l out m e = (refl, e)
 passes (Some r) l out m e = absurd (cc)
 
-left_ok : (n m : KnownNames) (o : Outcome) → leave n o ≡ Ok m → (i : KnownNames) × (o ≡ Ok i) × (n ≡ m)
+pub left_ok : (n m : KnownNames) (o : Outcome) → leave n o ≡ Ok m → (i : KnownNames) × (o ≡ Ok i) × (n ≡ m)
 left_ok n m (Ok i) e = (i, refl, ok_same n m e)
 left_ok n m (Err x) e = absurd (cc)
 
-after_ok : (f : KnownNames → Outcome) (m : KnownNames) (o : Outcome) → after o f ≡ Ok m → (i : KnownNames) × (o ≡ Ok i) × (f i ≡ Ok m)
+pub after_ok : (f : KnownNames → Outcome) (m : KnownNames) (o : Outcome) → after o f ≡ Ok m → (i : KnownNames) × (o ≡ Ok i) × (f i ≡ Ok m)
 after_ok f m (Ok i) e = (i, refl, e)
 after_ok f m (Err x) e = absurd (cc)
 
@@ -53,12 +53,12 @@ none_head f x xs e = go (f x) refl
     go true t = absurd (let i : Some x ≡ None = sym (ap (λ b. cond b (Some x) (find f xs)) t) ∙ e in cc)
     go false t = (t, sym (ap (λ b. cond b (Some x) (find f xs)) t) ∙ e)
 
-record Unbroken (A : Type 0) (h : Here) (s : TestStmt-F A) : Type 0 where
-  variable : unknown_variable h s ≡ false
-  handle : unknown_handle h s ≡ false
-  names : too_many_names h s ≡ false
-  join : join_later h s ≡ false
-  fork : fork_earlier h s ≡ false
+pub record Unbroken (A : Type 0) (h : Here) (s : TestStmt-F A) : Type 0 where
+  pub variable : unknown_variable h s ≡ false
+  pub handle : unknown_handle h s ≡ false
+  pub names : too_many_names h s ≡ false
+  pub join : join_later h s ≡ false
+  pub fork : fork_earlier h s ≡ false
 
 unbroken : (A : Type 0) (h : Here) (s : TestStmt-F A) → first_broken h s ≡ None → Unbroken A h s
 unbroken A h s e =
@@ -228,10 +228,10 @@ module _ (ports : Ports) where
   stays g rest n m y f e c = (subst (λ (z : KnownNames). Covers z.handles rest) e c, λ k a. f k (subst (λ z. Allowed g z k) (sym e) a))
 
   -- at each variant: what the rules say, and the rest of the outcome
-  abbrev Judged : Region → (Name → Bool) → KnownNames → KnownNames → TestStmt-F Part → Type 0
+  abbrev pub Judged : Region → (Name → Bool) → KnownNames → KnownNames → TestStmt-F Part → Type 0
   Judged g rest n m x = Unbroken Part (here ports g n) x × (behind x ports g rest n ≡ Ok m)
 
-  judged : (g : Region) (rest : Name → Bool) (n m : KnownNames) (x : TestStmt-F Part) → (part_level x).goes_on ports g rest n ≡ Ok m → Judged g rest n m x
+  pub judged : (g : Region) (rest : Name → Bool) (n m : KnownNames) (x : TestStmt-F Part) → (part_level x).goes_on ports g rest n ≡ Ok m → Judged g rest n m x
   judged g rest n m x e = let u = passes (first_broken (here ports g n) x) (line_of x) (behind x ports g rest n) m e in (unbroken Part (here ports g n) x u.0, u.1)
 
   level_allows : (y : TestStmt-F With) (g : Region) (rest : Name → Bool) (n m : KnownNames) → Judged g rest n m (parts_at y) → Covers n.handles (gives_level (parts_at y) g) → Covers n.handles rest
@@ -294,7 +294,7 @@ module _ (ports : Ports) where
   with_all [] = ([], refl)
   with_all (s ∷ ss) = let r = with_all ss in ((s, stmt_allows s) ∷ r.0, ap (λ t. s ∷ t) r.1)
 
-  ok_of : (o : Outcome) → broken_in o ≡ None → (m : KnownNames) × (o ≡ Ok m)
+  pub ok_of : (o : Outcome) → broken_in o ≡ None → (m : KnownNames) × (o ≡ Ok m)
   ok_of (Ok m) e = (m, refl)
   ok_of (Err x) e = absurd (cc)
 

@@ -1,10 +1,10 @@
 -- The machine gives one action, however many instructions it may execute.
-use Rattle.std.proofs.Common.{◌≡◌, ℕ, zero, suc, ◌+◌, ◌≤◌, Bool, true, false, cond, nat_le, nat_lt, Option, Some, None, sym, ◌∙◌, arith, slice_get}
+use Rattle.std.proofs.Common.{◌≡◌, ℕ, zero, suc, ◌+◌, ◌≤◌, Bool, true, false, cond, nat_le, nat_lt, Option, Some, None, sym, ◌∙◌, arith}
 use Rattle.tb_base.specs.declared.path.Region.{Region}
 use Rattle.tl_threads.specs.declared.code.Instr.{Instr}
 use Rattle.tl_threads.specs.declared.code.Instr.TheVariants as instr
-use Rattle.tl_threads.specs.Threads.{Inner, next}
-use Rattle.tl_threads.specs.Machine.{Core, Did, Doing, Code, Go, step, run, locally, counted_on, go_if}
+use Rattle.tl_threads.specs.Threads.{Inner}
+use Rattle.tl_threads.specs.Machine.{Core, Did, Code, Go, step, run, locally, counted_on, go_if}
 use Rattle.tl_threads.specs.Stands.{Places, code_of, Stands}
 use Rattle.tl_threads.specs.Laws.{Works}
 use Rattle.tl_threads.proofs.Refines.{refines}

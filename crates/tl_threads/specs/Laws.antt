@@ -1,11 +1,11 @@
 -- What is proved of code and threads.
-use Rattle.std.specs.Prelude.{◌≡◌, ℕ, suc, ◌+◌, ◌≤◌, Some}
+use Rattle.std.specs.Prelude.{◌≡◌, ℕ, Some}
 use Rattle.tb_base.specs.declared.path.Region.{Region}
 use Rattle.tl_threads.specs.Values.{Name, Numbers, Expr, value}
 use Rattle.tl_threads.specs.Threads.{Inner, next}
 use Rattle.tl_threads.specs.Code.{operand}
 use Rattle.tl_threads.specs.Machine.{Core, Did, Code, run, taken}
-use Rattle.tl_threads.specs.Stands.{Places, code_of, KnownIn, Agrees, Stands, Does}
+use Rattle.tl_threads.specs.Stands.{Places, KnownIn, Agrees, Stands, Does}
 use Rattle.std.specs.Prelude.{List}
 
 -- an operand's number is that of its expression, where the variables in it are known and the slots agree

@@ -44,13 +44,16 @@ pub record RespectsRegions (r : ℕ) (forked : List ℕ) (i : Inner) : Type 0 wh
   pub forks : i.forks ≡ length forked
 
 -- the threads of tests over a circuit: what its inputs take, the values of its signals, and their cones
-abbrev pub threads_over : (limit : ℕ) → (fitted : (port raw : ℕ) → ℕ) → (value : (inputs registers : List ℕ) (signal : ℕ) → ℕ) → (cone : (signal port : ℕ) → Bool) → Model
-threads_over limit fitted value cone = record { Inner = Inner; next = next limit; fitted = fitted; value = value; cone = cone; Fits = RespectsRegions }
+abbrev pub threads_over : (limit : ℕ) → (fitted : (port raw : ℕ) → ℕ) → (value : (inputs registers : List ℕ) (signal : ℕ) → ℕ)
+    → (cone : (signal port : ℕ) → Bool) → Model
+threads_over limit fitted value cone =
+    record { Inner = Inner; next = next limit; fitted = fitted; value = value; cone = cone; Fits = RespectsRegions }
 
 -- EACH MOVE RESPECTS REGIONS, over any circuit, and so does what comes behind it
 abbrev pub MovesFit : Type 0
-MovesFit = (limit : ℕ) (fitted : (port raw : ℕ) → ℕ) (value : (inputs registers : List ℕ) (signal : ℕ) → ℕ) (cone : (signal port : ℕ) → Bool)
-    (r : ℕ) (forked : List ℕ) (i : Inner) → RespectsRegions r forked i → FitsMove (threads_over limit fitted value cone) r forked (next limit i)
+MovesFit = (limit : ℕ) (fitted : (port raw : ℕ) → ℕ) (value : (inputs registers : List ℕ) (signal : ℕ) → ℕ)
+    (cone : (signal port : ℕ) → Bool) (r : ℕ) (forked : List ℕ) (i : Inner) → RespectsRegions r forked i
+    → FitsMove (threads_over limit fitted value cone) r forked (next limit i)
 
 -- the root thread of a test that keeps the rules respects regions
 abbrev pub RootFits : Type 0

@@ -2,7 +2,7 @@
 --
 -- All numbers are from 0 up to 2 ^ 128, and results are whole numbers modulo 2 ^ 128. Comparisons are without sign and give 1 or 0. A
 -- shift by 128 or more gives 0.
-use Rattle.std.specs.Prelude.{ℕ, ℤ, pos, ◌+ℤ◌, ◌-ℤ◌, ◌*ℤ◌, ◌*◌, ◌/◌, ◌%◌, ◌^◌, Bool, true, false, not, nat_lt, nat_le, nat_eq, bit_and, bit_or, bit_xor, Option, unwrap_or, List}
+use Rattle.std.specs.Prelude.{ℕ, ℤ, pos, ◌+ℤ◌, ◌-ℤ◌, ◌*ℤ◌, ◌*◌, ◌/◌, ◌%◌, ◌^◌, Bool, true, false, not, nat_lt, nat_le, nat_eq, bit_and, bit_or, bit_xor, unwrap_or, List}
 use Rattle.std.specs.FinMap as map
 use Rattle.std.specs.FinMap.{FinMap}
 use Rattle.std.specs.Ordering.{nat_cmp}

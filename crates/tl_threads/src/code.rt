@@ -3,6 +3,7 @@
 //! A thread that runs code has a place, a slot for each variable that is known, a slot for each handle that is known, and a count
 //! for each open `repeat`. Places, slots and lines are numbers of 32 bits; a place is that of an instruction, from 0.
 ghost use Rattle.std.specs.Prelude.{◌≡◌, IfOk};
+ghost use Rattle.std.specs.Bool.{Decides};
 
 use net_core::Signal;
 use std::alloc::Global;
@@ -68,8 +69,29 @@ impl Operand {
     }
 }
 
+impl PartialEq for Operand {
+    ghost use Rattle.std.specs.Cmp.Lexicographic.{pointwise, lists_per};
+    ghost use Rattle.tl_threads.specs.contracts.code.ItemPartialEq.TheImpl as item;
+    ghost use Rattle.tl_threads.specs.contracts.code.ItemPartialEq.TheImpl.Laws as item_laws;
+
+    ghost eq = { pointwise ((item.ghosts).eq) };
+
+    ghost laws = { lists_per item_laws.laws-law };
+
+    fn eq(&self, other: &Operand) -> bool {
+        self.items() == other.items()
+    }
+}
+
+impl Eq for Operand {
+    ghost use Rattle.std.specs.Cmp.Lexicographic.{lists_equiv};
+    ghost use Rattle.tl_threads.specs.contracts.code.ItemEq.TheImpl.Laws as item_laws;
+
+    ghost laws = { lists_equiv item_laws.laws-law };
+}
+
 /// One instruction. `line` is that of the statement that it comes from.
-#[derive(Debug, Drop)]
+#[derive(Debug, Drop, PartialEq, Eq)]
 pub enum Instr {
     /// Acts: the number goes to the input `port`.
     Poke {
@@ -167,4 +189,91 @@ pub struct Placed {
     pub handles: u32,
     /// The number of `repeat`s round the place, those outside the innermost fork round it not counted.
     pub loops: u32,
+}
+
+impl Instr {
+    /// Whether it is the same instruction: the same variant, with equal numbers and equal operands. The time is linear in the length of
+    /// its operand.
+    pub fn same(&self, other: &Instr) -> bool
+        ensures { Decides result (self.now ≡ other.now) }
+    {
+        self == other
+    }
+
+    /// An equal instruction. Takes no memory; `Err(Memory)` is as for [`Operand::copy`].
+    pub fn copy(&self) -> Result<Instr, Memory>
+        ensures { IfOk result (λ i. i ≡ self.now) }
+    {
+        Ok(match self {
+            Instr::Poke { line, port, value } => Instr::Poke {
+                line: *line,
+                port: *port,
+                value: value.copy()?,
+            },
+            Instr::Peek { line, port, into } => Instr::Peek {
+                line: *line,
+                port: *port,
+                into: *into,
+            },
+            Instr::Expect { line, port, value } => Instr::Expect {
+                line: *line,
+                port: *port,
+                value: value.copy()?,
+            },
+            Instr::Step { line, count } => Instr::Step {
+                line: *line,
+                count: *count,
+            },
+            Instr::Store { line, slot, value } => Instr::Store {
+                line: *line,
+                slot: *slot,
+                value: value.copy()?,
+            },
+            Instr::Unless { line, cond, other } => Instr::Unless {
+                line: *line,
+                cond: cond.copy()?,
+                other: *other,
+            },
+            Instr::Goto { to } => Instr::Goto { to: *to },
+            Instr::Enter { line, cond, out } => Instr::Enter {
+                line: *line,
+                cond: cond.copy()?,
+                out: *out,
+            },
+            Instr::Turn { line, cond, back } => Instr::Turn {
+                line: *line,
+                cond: cond.copy()?,
+                back: *back,
+            },
+            Instr::Count { line, count, out } => Instr::Count {
+                line: *line,
+                count: count.copy()?,
+                out: *out,
+            },
+            Instr::Again { line, back } => Instr::Again {
+                line: *line,
+                back: *back,
+            },
+            Instr::Fork {
+                line,
+                region,
+                slot,
+                after,
+            } => Instr::Fork {
+                line: *line,
+                region: *region,
+                slot: *slot,
+                after: *after,
+            },
+            Instr::Join { line, slot } => Instr::Join {
+                line: *line,
+                slot: *slot,
+            },
+            Instr::JoinStep { line, slot } => Instr::JoinStep {
+                line: *line,
+                slot: *slot,
+            },
+            Instr::End => Instr::End,
+        })
+    }
 }

@@ -1,8 +1,17 @@
 //! Laws of threads and of code. Each function has no body: its contract is the law.
 ghost use Rattle.tl_threads.specs.Laws.{OperandsAreValues, OneAction, CodeRefines};
 ghost use Rattle.tl_threads.specs.Fits.{StandsFits, FitsStands, RootStands};
-ghost use Rattle.tl_threads.specs.Allowed.{RulesAllow, AllowedIsChecked};
+ghost use Rattle.tl_threads.specs.Allowed.{RulesAllow, AllowedIsChecked, RulesBound, RulesStand};
 ghost use Rattle.tl_threads.specs.Regions.{MovesFit, RootFits};
+
+use crate::code::Placed;
+
+fn shared<T: Send + Sync>(_value: &T) {}
+
+/// Placed instructions can be sent to other threads of the program, and be read by several at once.
+pub fn code_can_be_shared(placed: &Placed) {
+    shared(placed)
+}
 
 /// The number of an expression's postfix form is the number of the expression, where its variables are known and the slots have their
 /// numbers.
@@ -43,9 +52,20 @@ pub fn rules_allow_the_body()
     ensures { RulesAllow }
 {}
 
+/// A test that keeps the rules for its ports takes at most 257 slots for variables, and 65 for handles.
+pub fn rules_bound_the_slots()
+    ensures { RulesBound }
+{}
+
 /// An allowed body is checked, where there are no fewer slots than names that are known at one place.
 pub fn what_is_allowed_is_checked()
     ensures { AllowedIsChecked }
+{}
+
+/// The places of a test's code stand for threads, where the test keeps the rules for its ports and there are no fewer slots than names that
+/// are known at one place.
+pub fn rules_make_the_code_stand()
+    ensures { RulesStand }
 {}
 
 /// Each move of a thread that respects regions respects them, whatever the circuit: children are forked into no lesser region, and a child
