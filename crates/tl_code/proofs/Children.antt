@@ -20,6 +20,7 @@ same_front (w ∷ ws) (z ∷ zs) x y e =
 
 pub child_decided : (own : List ℕ) (forks : ℕ) (child front : List ℕ) (last : ℕ) (r : Bool) → child ≡ front ++ last ∷ [] → last < forks → r ≡ bytes_eq front own
     → Decides r ((j : ℕ) × (j < forks) × (child ≡ own ++ j ∷ []))
-child_decided own forks child front last r e lt er =
-    ((λ t. (last, lt, e ∙ ap (λ f. f ++ last ∷ []) ((bytes_eq-Decides front own).0 (sym er ∙ t)))),
-     (λ p. er ∙ (bytes_eq-Decides front own).1 (same_front front own last p.0 (sym e ∙ p.2)).0))
+child_decided own forks child front last r e lt er = (
+  (λ t. (last, lt, e ∙ ap (λ f. f ++ last ∷ []) ((bytes_eq-Decides front own).0 (sym er ∙ t)))),
+  (λ p. er ∙ (bytes_eq-Decides front own).1 (same_front front own last p.0 (sym e ∙ p.2)).0),
+)

@@ -29,10 +29,9 @@ found name (k ∷ ks) = by (pointwise nat_eq name k.items) (found name ks)
   where
     by : (b : Bool) → position (λ k. pointwise nat_eq name k.items) ks ≡ slot_found name (shown ks)
         → cond (nat_lt (cond (not b) (1 + position_or_len (λ k. pointwise nat_eq name k.items) ks) 0) (suc (length ks))) (Some (cond (not b) (1 + position_or_len (λ k. pointwise nat_eq name k.items) ks) 0)) None
-          ≡ cond b (Some zero) (option_map (λ k. suc k) (slot_found name (shown ks)))
+        ≡ cond b (Some zero) (option_map (λ k. suc k) (slot_found name (shown ks)))
     by true r = first (length ks)
     by false r = later (position_or_len (λ k. pointwise nat_eq name k.items) ks) (length ks) ∙ ap (option_map (λ k. suc k)) r
-
 
 -- a name that isn't known is in no set of these
 

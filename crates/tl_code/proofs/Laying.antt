@@ -23,12 +23,12 @@ choice_at c head xs b k c0 c2 c3 c4 c5 x y n0 n2 n3 n4 m0 f2 m2 e3 e4 m4 e5 s3 =
     let l2 : n2 ≡ length (c0 ++ head n3 ∷ xs) = omega (arith, m2 ∙ ap length f2 ∙ length-append c0 (x ∷ xs), length-append c0 (head n3 ∷ xs)) in
     let q : n4 ≡ n3 + length (b n3) = omega (arith, m4 ∙ ap length f4 ∙ length-append c0 (x ∷ (xs ++ y ∷ b n3)), length-append xs (y ∷ b n3)) in
     let f5 : c5 ≡ c0 ++ head n3 ∷ (xs ++ at c (Goto n4) ∷ b n3) =
-        e5 ∙ ap (λ l. slice_set (slice_set l n0 (head n3)) n2 (at c (Goto n4))) f4
-        ∙ ap (λ n. slice_set (slice_set (c0 ++ x ∷ (xs ++ y ∷ b n3)) n (head n3)) n2 (at c (Goto n4))) m0
-        ∙ ap (λ l. slice_set l n2 (at c (Goto n4))) (set-append_seam c0 x (xs ++ y ∷ b n3) (head n3) ∙ sym (append_assoc c0 (head n3 ∷ xs) (y ∷ b n3)))
-        ∙ ap (λ n. slice_set ((c0 ++ head n3 ∷ xs) ++ y ∷ b n3) n (at c (Goto n4))) l2
-        ∙ set-append_seam (c0 ++ head n3 ∷ xs) y (b n3) (at c (Goto n4))
-        ∙ append_assoc c0 (head n3 ∷ xs) (at c (Goto n4) ∷ b n3) in
+    e5 ∙ ap (λ l. slice_set (slice_set l n0 (head n3)) n2 (at c (Goto n4))) f4
+    ∙ ap (λ n. slice_set (slice_set (c0 ++ x ∷ (xs ++ y ∷ b n3)) n (head n3)) n2 (at c (Goto n4))) m0
+    ∙ ap (λ l. slice_set l n2 (at c (Goto n4))) (set-append_seam c0 x (xs ++ y ∷ b n3) (head n3) ∙ sym (append_assoc c0 (head n3 ∷ xs) (y ∷ b n3)))
+    ∙ ap (λ n. slice_set ((c0 ++ head n3 ∷ xs) ++ y ∷ b n3) n (at c (Goto n4))) l2
+    ∙ set-append_seam (c0 ++ head n3 ∷ xs) y (b n3) (at c (Goto n4))
+    ∙ append_assoc c0 (head n3 ∷ xs) (at c (Goto n4) ∷ b n3) in
     let l5 : length c5 ≡ n4 = omega (arith, ap length f5 ∙ length-append c0 (head n3 ∷ (xs ++ at c (Goto n4) ∷ b n3)), length-append xs (at c (Goto n4) ∷ b n3)) in
     ap (λ n. c0 ++ head n ∷ (xs ++ second_side c b k n)) (sym s3)
     ∙ ap (λ n. c0 ++ head n3 ∷ (xs ++ (at c (Goto n) ∷ (b n3 ++ k n)))) (sym q)
@@ -55,12 +55,12 @@ laid_framed head body foot k c0 c1 c2 c3 c4 x n0 n3 m0 e1 e2 e3 m3 e4 =
     let l1 : length c1 ≡ suc (length c0) = omega (arith, ap length e1 ∙ length-append c0 (x ∷ [])) in
     let f2 : c2 ≡ c0 ++ x ∷ body (suc (length c0)) = sym e2 ∙ ap (λ n. c1 ++ body n) l1 ∙ ap (λ l. l ++ body (suc (length c0))) e1 ∙ append_assoc c0 (x ∷ []) (body (suc (length c0))) in
     let f3 : c3 ≡ c0 ++ x ∷ (body (suc (length c0)) ++ foot (suc (length c0)) ∷ []) =
-        e3 ∙ ap (λ n. c2 ++ foot (suc n) ∷ []) m0 ∙ ap (λ l. l ++ foot (suc (length c0)) ∷ []) f2 ∙ append_assoc c0 (x ∷ body (suc (length c0))) (foot (suc (length c0)) ∷ []) in
+    e3 ∙ ap (λ n. c2 ++ foot (suc n) ∷ []) m0 ∙ ap (λ l. l ++ foot (suc (length c0)) ∷ []) f2 ∙ append_assoc c0 (x ∷ body (suc (length c0))) (foot (suc (length c0)) ∷ []) in
     let out : n3 ≡ suc (suc (length c0) + length (body (suc (length c0)))) =
-        omega (arith, m3 ∙ ap length f3 ∙ length-append c0 (x ∷ (body (suc (length c0)) ++ foot (suc (length c0)) ∷ [])), length-append (body (suc (length c0))) (foot (suc (length c0)) ∷ [])) in
+    omega (arith, m3 ∙ ap length f3 ∙ length-append c0 (x ∷ (body (suc (length c0)) ++ foot (suc (length c0)) ∷ [])), length-append (body (suc (length c0))) (foot (suc (length c0)) ∷ [])) in
     let f4 : c4 ≡ c0 ++ head n3 ∷ (body (suc (length c0)) ++ foot (suc (length c0)) ∷ []) =
-        e4 ∙ ap (λ l. slice_set l n0 (head n3)) f3 ∙ ap (λ n. slice_set (c0 ++ x ∷ (body (suc (length c0)) ++ foot (suc (length c0)) ∷ [])) n (head n3)) m0
-        ∙ set-append_seam c0 x (body (suc (length c0)) ++ foot (suc (length c0)) ∷ []) (head n3) in
+    e4 ∙ ap (λ l. slice_set l n0 (head n3)) f3 ∙ ap (λ n. slice_set (c0 ++ x ∷ (body (suc (length c0)) ++ foot (suc (length c0)) ∷ [])) n (head n3)) m0
+    ∙ set-append_seam c0 x (body (suc (length c0)) ++ foot (suc (length c0)) ∷ []) (head n3) in
     let l4 : length c4 ≡ n3 = omega (arith, ap length f4 ∙ length-append c0 (head n3 ∷ (body (suc (length c0)) ++ foot (suc (length c0)) ∷ [])), length-append (body (suc (length c0))) (foot (suc (length c0)) ∷ [])) in
     ap (λ n. c0 ++ head n ∷ (body (suc (length c0)) ++ foot (suc (length c0)) ∷ k n)) (sym out)
     ∙ sym (ap (λ n. c4 ++ k n) l4 ∙ ap (λ l. l ++ k n3) f4 ∙ append_assoc c0 (head n3 ∷ (body (suc (length c0)) ++ foot (suc (length c0)) ∷ [])) (k n3) ∙ ap (λ l. c0 ++ head n3 ∷ l) (append_assoc (body (suc (length c0))) (foot (suc (length c0)) ∷ []) (k n3)))

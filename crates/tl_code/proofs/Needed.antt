@@ -62,8 +62,12 @@ variables_needed (repeat_by l e a k) c pc =
     omega (arith, variables_needed a (deeper c) (suc pc), variables_needed k c r, variables_append (block_code a (deeper c) (suc pc)) (at (deeper c) (instr.Again l (suc pc)) ∷ block_code k c r))
 variables_needed (fork_as l g h a k) c pc =
     let r = suc (suc pc + length (block_code a (child_scope g c) (suc pc))) in
-    omega (arith, variables_needed a (child_scope g c) (suc pc), variables_needed k (with_handle h c) r,
-      variables_append (block_code a (child_scope g c) (suc pc)) (at (child_scope g c) instr.End ∷ block_code k (with_handle h c) r))
+    omega (
+      arith,
+      variables_needed a (child_scope g c) (suc pc),
+      variables_needed k (with_handle h c) r,
+      variables_append (block_code a (child_scope g c) (suc pc)) (at (child_scope g c) instr.End ∷ block_code k (with_handle h c) r),
+    )
 variables_needed (join_of l h k) c pc = omega (arith, variables_needed k c (suc pc))
 variables_needed (joinstep_of l h k) c pc = omega (arith, variables_needed k c (suc pc))
 
@@ -90,8 +94,13 @@ handles_needed (repeat_by l e a k) c pc =
     omega (arith, handles_needed a (deeper c) (suc pc), handles_needed k c r, handles_append (block_code a (deeper c) (suc pc)) (at (deeper c) (instr.Again l (suc pc)) ∷ block_code k c r))
 handles_needed (fork_as l g h a k) c pc =
     let r = suc (suc pc + length (block_code a (child_scope g c) (suc pc))) in
-    omega (arith, handles_needed a (child_scope g c) (suc pc), handles_needed k (with_handle h c) r, with_length c.handles h,
-      handles_append (block_code a (child_scope g c) (suc pc)) (at (child_scope g c) instr.End ∷ block_code k (with_handle h c) r))
+    omega (
+      arith,
+      handles_needed a (child_scope g c) (suc pc),
+      handles_needed k (with_handle h c) r,
+      with_length c.handles h,
+      handles_append (block_code a (child_scope g c) (suc pc)) (at (child_scope g c) instr.End ∷ block_code k (with_handle h c) r),
+    )
 handles_needed (join_of l h k) c pc = omega (arith, handles_needed k c (suc pc))
 handles_needed (joinstep_of l h k) c pc = omega (arith, handles_needed k c (suc pc))
 

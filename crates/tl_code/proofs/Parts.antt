@@ -92,7 +92,7 @@ adds_one_at : (level : Level) (part : Body → Body) (most : ℕ) (i : Instr) (o
     → Adds level part most old (behind level i old)
 adds_one_at level part most i old m e = record {
   code_is = λ rest.
-    ap (λ code. old.placed ++ code) (e rest) ∙ behind_one old.placed (at (scope_of level old) i) (λ p. block_code rest (scope_of level old) p);
+      ap (λ code. old.placed ++ code) (e rest) ∙ behind_one old.placed (at (scope_of level old) i) (λ p. block_code rest (scope_of level old) p);
   variables = take_same old.variables;
   handles = take_same old.handles;
   grows = omega (arith, length-append old.placed (at (scope_of level old) i ∷ []));
@@ -118,8 +118,8 @@ module _ (ports : Ports) (level : Level) where
       let m : statements s ≡ 1 = ap statements e ∙ fold-Poke ℕ statements_level l p a in
       adds_one level (part s) (2 * statements s) (instr.Poke l port o) old new n (omega arith)
       (λ rest. ap (λ s. coded old (part s rest)) e ∙ ap (coded old) (piece-Poke ports l p a level.region rest)
-        ∙ ap (λ q. at (scope_of level old) (instr.Poke l q (operand old.variables (expr_of a))) ∷ block_code rest (scope_of level old) (suc (length old.placed))) (sym ep)
-        ∙ ap (λ q. at (scope_of level old) (instr.Poke l port q) ∷ block_code rest (scope_of level old) (suc (length old.placed))) (sym eo))
+      ∙ ap (λ q. at (scope_of level old) (instr.Poke l q (operand old.variables (expr_of a))) ∷ block_code rest (scope_of level old) (suc (length old.placed))) (sym ep)
+      ∙ ap (λ q. at (scope_of level old) (instr.Poke l port q) ∷ block_code rest (scope_of level old) (suc (length old.placed))) (sym eo))
 
   pub peek_adds : (s : TestStmt) (l : ℕ) (p : Name) (into : Option Name) (port : Signal) (k : Option ℕ) (old new : Drafted) → s ≡ stmt.Peek l p into
       → port ≡ signal_of ports p → k ≡ option_map (λ x. slot x old.variables) into → new ≡ behind level (instr.Peek l port k) old → Adds level (piece ports s level.region) (2 * statements s) old new
@@ -127,8 +127,8 @@ module _ (ports : Ports) (level : Level) where
       let m : statements s ≡ 1 = ap statements e ∙ fold-Peek ℕ statements_level l p into in
       adds_one level (part s) (2 * statements s) (instr.Peek l port k) old new n (omega arith)
       (λ rest. ap (λ s. coded old (part s rest)) e ∙ ap (coded old) (piece-Peek ports l p into level.region rest)
-        ∙ ap (λ q. at (scope_of level old) (instr.Peek l q (option_map (λ x. slot x old.variables) into)) ∷ block_code rest (scope_of level old) (suc (length old.placed))) (sym ep)
-        ∙ ap (λ q. at (scope_of level old) (instr.Peek l port q) ∷ block_code rest (scope_of level old) (suc (length old.placed))) (sym ek))
+      ∙ ap (λ q. at (scope_of level old) (instr.Peek l q (option_map (λ x. slot x old.variables) into)) ∷ block_code rest (scope_of level old) (suc (length old.placed))) (sym ep)
+      ∙ ap (λ q. at (scope_of level old) (instr.Peek l port q) ∷ block_code rest (scope_of level old) (suc (length old.placed))) (sym ek))
 
   pub expect_adds : (s : TestStmt) (l : ℕ) (p : Name) (a : TestExpr) (port : Signal) (o : List Item) (old new : Drafted) → s ≡ stmt.Expect l p a
       → port ≡ signal_of ports p → o ≡ operand old.variables (expr_of a) → new ≡ behind level (instr.Expect l port o) old → Adds level (piece ports s level.region) (2 * statements s) old new
@@ -136,8 +136,8 @@ module _ (ports : Ports) (level : Level) where
       let m : statements s ≡ 1 = ap statements e ∙ fold-Expect ℕ statements_level l p a in
       adds_one level (part s) (2 * statements s) (instr.Expect l port o) old new n (omega arith)
       (λ rest. ap (λ s. coded old (part s rest)) e ∙ ap (coded old) (piece-Expect ports l p a level.region rest)
-        ∙ ap (λ q. at (scope_of level old) (instr.Expect l q (operand old.variables (expr_of a))) ∷ block_code rest (scope_of level old) (suc (length old.placed))) (sym ep)
-        ∙ ap (λ q. at (scope_of level old) (instr.Expect l port q) ∷ block_code rest (scope_of level old) (suc (length old.placed))) (sym eo))
+      ∙ ap (λ q. at (scope_of level old) (instr.Expect l q (operand old.variables (expr_of a))) ∷ block_code rest (scope_of level old) (suc (length old.placed))) (sym ep)
+      ∙ ap (λ q. at (scope_of level old) (instr.Expect l port q) ∷ block_code rest (scope_of level old) (suc (length old.placed))) (sym eo))
 
   pub step_adds : (s : TestStmt) (l c : ℕ) (old new : Drafted) → s ≡ stmt.Step l c → new ≡ behind level (instr.Step l c) old → Adds level (piece ports s level.region) (2 * statements s) old new
   step_adds s l c old new e n =
@@ -150,14 +150,14 @@ module _ (ports : Ports) (level : Level) where
       let m : statements s ≡ 1 = ap statements e ∙ fold-Join ℕ statements_level l h in
       adds_one level (part s) (2 * statements s) (instr.Join l k) old new n (omega arith)
       (λ rest. ap (λ s. coded old (part s rest)) e ∙ ap (coded old) (piece-Join ports l h level.region rest)
-        ∙ ap (λ q. at (scope_of level old) (instr.Join l q) ∷ block_code rest (scope_of level old) (suc (length old.placed))) (sym ek))
+      ∙ ap (λ q. at (scope_of level old) (instr.Join l q) ∷ block_code rest (scope_of level old) (suc (length old.placed))) (sym ek))
 
   pub joinstep_adds : (s : TestStmt) (l : ℕ) (h : Name) (k : ℕ) (old new : Drafted) → s ≡ stmt.JoinStep l h → k ≡ slot h old.handles → new ≡ behind level (instr.JoinStep l k) old → Adds level (piece ports s level.region) (2 * statements s) old new
   joinstep_adds s l h k old new e ek n =
       let m : statements s ≡ 1 = ap statements e ∙ fold-JoinStep ℕ statements_level l h in
       adds_one level (part s) (2 * statements s) (instr.JoinStep l k) old new n (omega arith)
       (λ rest. ap (λ s. coded old (part s rest)) e ∙ ap (coded old) (piece-JoinStep ports l h level.region rest)
-        ∙ ap (λ q. at (scope_of level old) (instr.JoinStep l q) ∷ block_code rest (scope_of level old) (suc (length old.placed))) (sym ek))
+      ∙ ap (λ q. at (scope_of level old) (instr.JoinStep l q) ∷ block_code rest (scope_of level old) (suc (length old.placed))) (sym ek))
 
   pub driver_adds : (s : TestStmt) (l : ℕ) (kind : DriverKind) (p : Name) (xs : List TestExpr) (old : Drafted) → s ≡ stmt.Driver l kind p xs → Adds level (piece ports s level.region) (2 * statements s) old old
   driver_adds s l kind p xs old e = adds_none level (part s) (2 * statements s) old (λ rest. ap (λ s. part s rest) e ∙ piece-Driver ports l kind p xs level.region rest)
@@ -170,8 +170,8 @@ module _ (ports : Ports) (level : Level) where
   store_adds_at : (l : ℕ) (x : Name) (a : Expr) (o : List Item) (old : Drafted) → o ≡ operand old.variables a → Adds level (let_var l x a) 2 old (stored level l x o old)
   store_adds_at l x a o old eo = record {
     code_is = λ rest.
-      ap (λ q. old.placed ++ at (scope_of level old) (instr.Store l (slot x (with_name old.variables x)) q) ∷ block_code rest (with_var x (scope_of level old)) (suc (length old.placed))) (sym eo)
-      ∙ behind_one old.placed (at (scope_of level old) (instr.Store l (slot x (with_name old.variables x)) o)) (λ p. block_code rest (with_var x (scope_of level old)) p);
+        ap (λ q. old.placed ++ at (scope_of level old) (instr.Store l (slot x (with_name old.variables x)) q) ∷ block_code rest (with_var x (scope_of level old)) (suc (length old.placed))) (sym eo)
+        ∙ behind_one old.placed (at (scope_of level old) (instr.Store l (slot x (with_name old.variables x)) o)) (λ p. block_code rest (with_var x (scope_of level old)) p);
     variables = take_with_name old.variables x;
     handles = take_same old.handles;
     grows = omega (arith, length-append old.placed (at (scope_of level old) (instr.Store l (slot x (with_name old.variables x)) o) ∷ []));
@@ -230,15 +230,15 @@ module _ (ports : Ports) (level : Level) where
       let c3 : List Placed = d1.placed ++ at (scope_of level d1) instr.End ∷ [] in
       let m3 : suc middle ≡ length (d1.placed ++ at (scope_of level d1) instr.End ∷ []) = omega (arith, s2.head_is, length-append d1.placed (at (scope_of level d1) instr.End ∷ [])) in
       laid_choice (scope_of level d0) (λ to. at (scope_of level d0) (instr.Unless l (operand d0.variables a) to)) (λ p. block_code (body_of ports level.region xs) (scope_of level d0) p)
-        (λ p. block_code (body_of ports level.region ys) (scope_of level d0) p) (λ p. block_code rest (scope_of level d0) p)
-        d0.placed (d0.placed ++ at (scope_of level d0) instr.End ∷ []) d1.placed (d1.placed ++ at (scope_of level d1) instr.End ∷ []) d2.placed d3.placed
-        (at (scope_of level d0) instr.End) (at (scope_of level d1) instr.End) head middle (suc middle) (length d2.placed)
-        s1.head_is refl (sym (ap (λ d. d.placed) s1.new_is)) s2.head_is refl m3
-        (ap (λ c. (d1.placed ++ at (scope_of level d1) instr.End ∷ []) ++ block_code (body_of ports level.region ys) c (length (d1.placed ++ at (scope_of level d1) instr.End ∷ []))) (sym k1) ∙ sym (ap (λ d. d.placed) s2.new_is))
-        refl
-        (ap (λ d. d.placed) e3
-          ∙ ap (λ c. slice_set (slice_set d2.placed head (at c (instr.Unless l o (suc middle)))) middle (at c (instr.Goto (length d2.placed)))) k2
-          ∙ ap (λ o. slice_set (slice_set d2.placed head (at (scope_of level d0) (instr.Unless l o (suc middle)))) middle (at (scope_of level d0) (instr.Goto (length d2.placed)))) eo)
+      (λ p. block_code (body_of ports level.region ys) (scope_of level d0) p) (λ p. block_code rest (scope_of level d0) p)
+      d0.placed (d0.placed ++ at (scope_of level d0) instr.End ∷ []) d1.placed (d1.placed ++ at (scope_of level d1) instr.End ∷ []) d2.placed d3.placed
+      (at (scope_of level d0) instr.End) (at (scope_of level d1) instr.End) head middle (suc middle) (length d2.placed)
+      s1.head_is refl (sym (ap (λ d. d.placed) s1.new_is)) s2.head_is refl m3
+      (ap (λ c. (d1.placed ++ at (scope_of level d1) instr.End ∷ []) ++ block_code (body_of ports level.region ys) c (length (d1.placed ++ at (scope_of level d1) instr.End ∷ []))) (sym k1) ∙ sym (ap (λ d. d.placed) s2.new_is))
+      refl
+      (ap (λ d. d.placed) e3
+      ∙ ap (λ c. slice_set (slice_set d2.placed head (at c (instr.Unless l o (suc middle)))) middle (at c (instr.Goto (length d2.placed)))) k2
+      ∙ ap (λ o. slice_set (slice_set d2.placed head (at (scope_of level d0) (instr.Unless l o (suc middle)))) middle (at (scope_of level d0) (instr.Goto (length d2.placed)))) eo)
       ∙ ap (λ c. d3.placed ++ block_code rest c (length d3.placed)) (sym k3)
 
   pub if_part : (s : TestStmt) (l : ℕ) (a : TestExpr) (o : List Item) (xs ys : List TestStmt) (d0 d1 d2 d3 : Drafted) (head middle : ℕ) → s ≡ stmt.If l a xs ys → o ≡ operand d0.variables (expr_of a)
@@ -250,8 +250,8 @@ module _ (ports : Ports) (level : Level) where
       let n : length d3.placed ≡ length d2.placed = ap (λ d. length d.placed) e3 ∙ simp length-set in
       record {
         code_is = λ rest.
-          ap (λ s. with_rest level d0 (part s rest)) e ∙ ap (with_rest level d0) (piece-If ports l a xs ys level.region rest)
-          ∙ if_adds l (expr_of a) o xs ys d0 d1 d2 d3 head middle eo s1 s2 e3 rest;
+            ap (λ s. with_rest level d0 (part s rest)) e ∙ ap (with_rest level d0) (piece-If ports l a xs ys level.region rest)
+            ∙ if_adds l (expr_of a) o xs ys d0 d1 d2 d3 head middle eo s1 s2 e3 rest;
         variables = ap (take (length d0.variables)) v ∙ take_same d0.variables;
         handles = ap (take (length d0.handles)) h ∙ take_same d0.handles;
         grows = omega (arith, s1.grows, s2.grows);
@@ -271,15 +271,15 @@ module _ (ports : Ports) (level : Level) where
       let n3 : length d3.placed ≡ length d2.placed = ap (λ d. length d.placed) e3 ∙ simp length-set in
       record {
         code_is = λ rest.
-          laid_framed (λ to. at (scope_of level d0) (instr.Enter l (operand d0.variables a) to)) (λ p. block_code (body_of ports level.region xs) (scope_of level d0) p)
+            laid_framed (λ to. at (scope_of level d0) (instr.Enter l (operand d0.variables a) to)) (λ p. block_code (body_of ports level.region xs) (scope_of level d0) p)
             (λ back. at (scope_of level d0) (instr.Turn l (operand d0.variables a) back)) (λ p. block_code rest (scope_of level d0) p)
             d0.placed (d0.placed ++ at (scope_of level d0) instr.End ∷ []) d1.placed d2.placed d3.placed (at (scope_of level d0) instr.End) head (length d2.placed)
             s1.head_is refl (sym (ap (λ d. d.placed) s1.new_is))
             (ap (λ d. d.placed) e2 ∙ ap (λ c. d1.placed ++ at c (instr.Turn l p (suc head)) ∷ []) k1 ∙ ap (λ o. d1.placed ++ at (scope_of level d0) (instr.Turn l o (suc head)) ∷ []) (ep ∙ eo))
             refl
             (ap (λ d. d.placed) e3 ∙ ap (λ c. slice_set d2.placed head (at c (instr.Enter l o (length d2.placed)))) k2
-              ∙ ap (λ o. slice_set d2.placed head (at (scope_of level d0) (instr.Enter l o (length d2.placed)))) eo)
-          ∙ ap (λ c. d3.placed ++ block_code rest c (length d3.placed)) (sym k3);
+            ∙ ap (λ o. slice_set d2.placed head (at (scope_of level d0) (instr.Enter l o (length d2.placed)))) eo)
+            ∙ ap (λ c. d3.placed ++ block_code rest c (length d3.placed)) (sym k3);
         variables = ap (λ c. take (length d0.variables) c.vars) k3 ∙ take_same d0.variables;
         handles = ap (λ c. take (length d0.handles) c.handles) k3 ∙ take_same d0.handles;
         grows = omega (arith, s1.grows);
@@ -304,17 +304,17 @@ module _ (ports : Ports) (level : Level) where
       let n4 : length d4.placed ≡ length d3.placed = ap (λ d. length d.placed) e4 ∙ simp length-set in
       record {
         code_is = λ rest.
-          laid_framed (λ to. at (scope_of level d0) (instr.Count l (operand d0.variables a) to)) (λ p. block_code (body_of ports level.region xs) (deeper (scope_of level d0)) p)
+            laid_framed (λ to. at (scope_of level d0) (instr.Count l (operand d0.variables a) to)) (λ p. block_code (body_of ports level.region xs) (deeper (scope_of level d0)) p)
             (λ back. at (deeper (scope_of level d0)) (instr.Again l back)) (λ p. block_code rest (scope_of level d0) p)
             d0.placed d1.placed d2.placed d3.placed d4.placed (at (scope_of level d0) instr.End) head (length d3.placed)
             eh (ap (λ d. d.placed) e1)
             (ap (λ c. d1.placed ++ block_code (body_of ports level.region xs) c (length d1.placed)) (sym i1)
-              ∙ ap (λ g. d1.placed ++ block_code (body_of ports g xs) (scope_of inner d1) (length d1.placed)) (sym (ap (λ i. i.region) ei)) ∙ sym (ap (λ d. d.placed) b.new_is))
+            ∙ ap (λ g. d1.placed ++ block_code (body_of ports g xs) (scope_of inner d1) (length d1.placed)) (sym (ap (λ i. i.region) ei)) ∙ sym (ap (λ d. d.placed) b.new_is))
             (ap (λ d. d.placed) e3 ∙ ap (λ c. d2.placed ++ at c (instr.Again l (suc head)) ∷ []) i2)
             refl
             (ap (λ d. d.placed) e4 ∙ ap (λ c. slice_set d3.placed head (at c (instr.Count l o (length d3.placed)))) k3
-              ∙ ap (λ o. slice_set d3.placed head (at (scope_of level d0) (instr.Count l o (length d3.placed)))) eo)
-          ∙ ap (λ c. d4.placed ++ block_code rest c (length d4.placed)) (sym k4);
+            ∙ ap (λ o. slice_set d3.placed head (at (scope_of level d0) (instr.Count l o (length d3.placed)))) eo)
+            ∙ ap (λ c. d4.placed ++ block_code rest c (length d4.placed)) (sym k4);
         variables = ap (λ c. take (length d0.variables) c.vars) k4 ∙ take_same d0.variables;
         handles = ap (λ c. take (length d0.handles) c.handles) k4 ∙ take_same d0.handles;
         grows = omega (arith, b.grows);
@@ -335,8 +335,8 @@ module _ (ports : Ports) (level : Level) where
       let v5 : d5.variables ≡ d0.variables = ap (λ d. d.variables) e5 ∙ ap (λ d. d.variables) e4 ∙ ap (λ d. d.variables) b.new_is ∙ ap (λ d. d.variables) e2 ∙ ap (λ d. d.variables) e1 in
       let h5 : d5.handles ≡ d0.handles = ap (λ d. d.handles) e5 ∙ ap (λ d. d.handles) e1 in
       let k5 : scope_of level d5 ≡ scope_of level d0 =
-          ap (λ v. record { depth = level.depth; region = level.region; loops = level.loops; vars = v; handles = d5.handles }) v5
-          ∙ ap (λ h. record { depth = level.depth; region = level.region; loops = level.loops; vars = d0.variables; handles = h }) h5 in
+      ap (λ v. record { depth = level.depth; region = level.region; loops = level.loops; vars = v; handles = d5.handles }) v5
+      ∙ ap (λ h. record { depth = level.depth; region = level.region; loops = level.loops; vars = d0.variables; handles = h }) h5 in
       let k7 : scope_of level d7 ≡ with_handle h (scope_of level d0) = ap (scope_of level) e7 ∙ ap (λ d. with_handle h (scope_of level d)) e6 ∙ ap (with_handle h) k5 in
       let p5 : d5.placed ≡ d4.placed = ap (λ d. d.placed) e5 in
       let p7 : d7.placed ≡ d6.placed = ap (λ d. d.placed) e7 in
@@ -346,17 +346,17 @@ module _ (ports : Ports) (level : Level) where
       let n7 : length d7.placed ≡ length d5.placed = ap length p7 ∙ ap (λ d. length d.placed) e6 ∙ simp length-set in
       record {
         code_is = λ rest.
-          laid_framed (λ to. at (scope_of level d0) (instr.Fork l g (slot h (with_name d0.handles h)) to)) (λ p. block_code (body_of ports g xs) (child_scope g (scope_of level d0)) p)
+            laid_framed (λ to. at (scope_of level d0) (instr.Fork l g (slot h (with_name d0.handles h)) to)) (λ p. block_code (body_of ports g xs) (child_scope g (scope_of level d0)) p)
             (λ back. at (child_scope g (scope_of level d0)) instr.End) (λ p. block_code rest (with_handle h (scope_of level d0)) p)
             d0.placed d2.placed d3.placed d5.placed d7.placed (at (scope_of level d0) instr.End) head (length d5.placed)
             eh p2
             (ap (λ c. d2.placed ++ block_code (body_of ports g xs) c (length d2.placed)) (sym i2)
-              ∙ ap (λ g. d2.placed ++ block_code (body_of ports g xs) (scope_of inner d2) (length d2.placed)) (sym (ap (λ i. i.region) ei)) ∙ sym (ap (λ d. d.placed) b.new_is))
+            ∙ ap (λ g. d2.placed ++ block_code (body_of ports g xs) (scope_of inner d2) (length d2.placed)) (sym (ap (λ i. i.region) ei)) ∙ sym (ap (λ d. d.placed) b.new_is))
             (p5 ∙ ap (λ d. d.placed) e4 ∙ ap (λ c. d3.placed ++ at c instr.End ∷ []) i3)
             refl
             (p7 ∙ ap (λ d. d.placed) e6 ∙ ap (λ c. slice_set d5.placed head (at c (instr.Fork l g k (length d5.placed)))) k5
-              ∙ ap (λ k. slice_set d5.placed head (at (scope_of level d0) (instr.Fork l g k (length d5.placed)))) (ek ∙ ap (λ hs. slot h (with_name hs h)) h5))
-          ∙ ap (λ c. d7.placed ++ block_code rest c (length d7.placed)) (sym k7);
+            ∙ ap (λ k. slice_set d5.placed head (at (scope_of level d0) (instr.Fork l g k (length d5.placed)))) (ek ∙ ap (λ hs. slot h (with_name hs h)) h5))
+            ∙ ap (λ c. d7.placed ++ block_code rest c (length d7.placed)) (sym k7);
         variables = ap (λ c. take (length d0.variables) c.vars) k7 ∙ take_same d0.variables;
         handles = ap (λ c. take (length d0.handles) c.handles) k7 ∙ take_with_name d0.handles h;
         grows = omega (arith, b.grows);
@@ -385,7 +385,7 @@ pub written_next : (ports : Ports) (level : Level) (block : List TestStmt) (i : 
     → Written ports level block i d0 d1 → Adds level (piece ports x level.region) (2 * statements x) d1 d2 → Written ports level block (i + 1) d0 d2
 written_next ports level block i x d0 d1 d2 e w a =
     let s : sum (map statements (drop i block)) ≡ statements x + sum (map statements (drop (i + 1) block)) =
-        ap (λ xs. sum (map statements xs)) e ∙ sum_first x (drop (i + 1) block) in
+    ap (λ xs. sum (map statements xs)) e ∙ sum_first x (drop (i + 1) block) in
     record {
       whole = w.whole ∙ ap (λ xs. with_rest level d1 (body_of ports level.region xs)) e ∙ a.code_is (body_of ports level.region (drop (i + 1) block));
       variables = take_through d0.variables d1.variables d2.variables w.variables a.variables;
@@ -399,14 +399,14 @@ pub written_end : (ports : Ports) (level : Level) (block : List TestStmt) (i v h
     → Written ports level block i d0 d1 → d2 ≡ record d1 { variables = take v d1.variables; handles = take h d1.handles } → AddsBlock ports level block d0 d2
 written_end ports level block i v h d0 d1 d2 e ev eh w e2 =
     let p : d1.placed ≡ with_rest level d0 (body_of ports level.region block) =
-        sym (append-nil d1.placed) ∙ sym (ap (λ xs. with_rest level d1 (body_of ports level.region xs)) e) ∙ sym w.whole in
+    sym (append-nil d1.placed) ∙ sym (ap (λ xs. with_rest level d1 (body_of ports level.region xs)) e) ∙ sym w.whole in
     let s : sum (map statements (drop i block)) ≡ 0 = ap (λ xs. sum (map statements xs)) e in
     let n : length d2.placed ≡ length d1.placed = ap (λ d. length d.placed) e2 in
     record {
       new_is =
-        e2 ∙ ap (λ vs. record d1 { variables = vs; handles = take h d1.handles }) (ap (λ n. take n d1.variables) ev ∙ w.variables)
-        ∙ ap (λ hs. record d1 { variables = d0.variables; handles = hs }) (ap (λ n. take n d1.handles) eh ∙ w.handles)
-        ∙ ap (λ code. record d0 { placed = code }) p;
+          e2 ∙ ap (λ vs. record d1 { variables = vs; handles = take h d1.handles }) (ap (λ n. take n d1.variables) ev ∙ w.variables)
+          ∙ ap (λ hs. record d1 { variables = d0.variables; handles = hs }) (ap (λ n. take n d1.handles) eh ∙ w.handles)
+          ∙ ap (λ code. record d0 { placed = code }) p;
       grows = omega (arith, w.grows);
       within = omega (arith, w.within);
     }

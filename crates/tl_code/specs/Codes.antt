@@ -1,5 +1,6 @@
 -- The code of a test, and the states of threads that run it.
-use Rattle.std.specs.Prelude.{◌≡◌, ℕ, ◌+◌, ◌*◌, ◌<◌, ◌≤◌, List, [], ◌∷◌, ◌++◌, length, map, reverse, Option, Some, None, option_map, slice_get, All}
+use Rattle.std.specs.Prelude.{◌≡◌, ℕ, ◌+◌, ◌*◌, ◌<◌, ◌≤◌, List, [], ◌∷◌, ◌++◌, length, map, reverse, Option, Some, None, option_map, slice_get, All, replicate}
+use Rattle.tb_base.specs.declared.path.Region.TheVariants.{Main}
 use Rattle.tl_check.specs.Checked.{TestFor}
 use Rattle.tl_check.specs.Walk.{test_rule}
 use Rattle.tl_threads.specs.declared.code.Placed.{Placed}
@@ -80,3 +81,17 @@ child_number (n ∷ ns) = last_of n ns
 -- machine.
 abbrev pub core_of : ThreadState → Core
 core_of s = record { pc = s.pc; locals = s.locals; handles = map (option_map child_number) s.handles; loops = reverse s.loops; forks = s.forks }
+
+-- where the root thread begins
+abbrev pub root_state : Compiled → ThreadState
+root_state c = record {
+  path = [];
+  region = Main;
+  pc = 0;
+  locals = replicate c.variables 0;
+  handles = replicate c.handles None;
+  loops = [];
+  forks = 0;
+  acts = 0;
+  joined = None;
+}

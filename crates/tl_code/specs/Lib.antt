@@ -2,3 +2,4 @@ pub mod Drafts
 pub mod Compiled
 pub mod Slots
 pub mod Codes
+pub mod Laws

@@ -113,7 +113,16 @@ fn emit_stmt(
             body,
         } => {
             let region = child_region(level.region, *region);
-            emit_fork(alloc, ports, level, region, *line, handle.bytes(), body.as_slice(), draft)
+            emit_fork(
+                alloc,
+                ports,
+                level,
+                region,
+                *line,
+                handle.bytes(),
+                body.as_slice(),
+                draft,
+            )
         }
         TestStmt::Join { line, handle } => {
             let line = *line;
@@ -187,9 +196,24 @@ fn emit_while(
     let later = first.copy()?;
     let head = emit_side(alloc, ports, level, body, draft)?;
     let back = head + 1;
-    draft.put(level, Instr::Turn { line, cond: later, back })?;
+    draft.put(
+        level,
+        Instr::Turn {
+            line,
+            cond: later,
+            back,
+        },
+    )?;
     let out = draft.place();
-    draft.replace(level, head, Instr::Enter { line, cond: first, out });
+    draft.replace(
+        level,
+        head,
+        Instr::Enter {
+            line,
+            cond: first,
+            out,
+        },
+    );
     Ok(())
 }
 
@@ -247,7 +271,16 @@ fn emit_fork(
     draft.end_fork(outside);
     let after = draft.place();
     let slot = draft.handle_slot_once_known(handle);
-    draft.replace(level, head, Instr::Fork { line, region, slot, after });
+    draft.replace(
+        level,
+        head,
+        Instr::Fork {
+            line,
+            region,
+            slot,
+            after,
+        },
+    );
     draft.add_handle(alloc, handle)
 }
 

@@ -5,6 +5,7 @@ mod code;
 mod draft;
 mod emit;
 mod fits;
+pub mod laws;
 mod level;
 mod names;
 mod operands;

@@ -6,4 +6,4 @@ pub returns-clause-known : goal.returns-clause-known
 returns-clause-known c =
     ap shown c.in_ok-insert.ensures.keys
     ∙ added c.in_ok-own.own c.self.inside.names.keys c.args.name.now c.args.self.now c.in_ok-own.ensures.items c.self.view_is
-      (sym c.find.ensures.slot ∙ is_new c.find.result (sym c.is_some.ensures ∙ c.if-is_some.false))
+    (sym c.find.ensures.slot ∙ is_new c.find.result (sym c.is_some.ensures ∙ c.if-is_some.false))

@@ -1,0 +1,30 @@
+//! Laws of code and of the states that fit it. What a function calls are the laws that it rests on.
+ghost use Rattle.tl_code.specs.Laws.{PlacesStand, FittingStands, RootStateStands};
+
+use tl_threads::laws::{
+    rules_make_the_code_stand, the_beginning_stands_for_the_root, what_fits_stands,
+};
+
+/// Each place of code stands for threads of its test: the instructions are those of the test's body, each name that is used is known, and
+/// there are slots enough.
+pub fn the_places_stand()
+    ensures { PlacesStand }
+{
+    rules_make_the_code_stand();
+}
+
+/// A state that fits code stands for a thread of its test.
+pub fn a_fitting_state_stands()
+    ensures { FittingStands }
+{
+    the_places_stand();
+    what_fits_stands();
+}
+
+/// The state at the beginning of code stands for the root thread of its test.
+pub fn the_root_state_stands()
+    ensures { RootStateStands }
+{
+    the_places_stand();
+    the_beginning_stands_for_the_root();
+}
