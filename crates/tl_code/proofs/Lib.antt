@@ -2,6 +2,7 @@ pub mod Known
 pub mod Needed
 pub mod Children
 pub mod First
+pub mod Depths
 pub mod Made
 pub mod Laying
 pub mod Parts

@@ -1,8 +1,9 @@
 -- Code that is made of a test.
-use Rattle.std.proofs.Common.{◌≡◌, ℕ, zero, suc, ◌<◌, ◌≤◌, List, [], length, replicate, Bool, Option, Some, None, slice_get, refl, sym, ap, subst, ◌∙◌, arith}
+use Rattle.std.proofs.Common.{◌≡◌, ℕ, zero, suc, ◌<◌, ◌≤◌, List, [], length, map, replicate, Bool, Option, Some, None, slice_get, refl, sym, ap, subst, ◌∙◌, arith}
 use Rattle.std.proofs.lemmas.List.{length-replicate}
 use Rattle.std.specs.Bool.{Decides}
 use Rattle.tb_base.specs.declared.path.Region.TheVariants.{Main}
+use Rattle.tl_check.specs.Bounds.{greatest, nested_forks}
 use Rattle.tl_check.specs.Checked.{TestFor}
 use Rattle.tl_check.specs.Walk.{test_rule}
 use Rattle.tl_threads.specs.declared.code.Placed.{Placed}
@@ -14,11 +15,12 @@ use Rattle.tl_code.specs.declared.state.ThreadState.{ThreadState}
 use Rattle.tl_code.specs.Compiled.{Compiled}
 use Rattle.tl_code.specs.Codes.{IsCode, FitsAt, Fits, body_of_code, root_state}
 use Rattle.tl_code.proofs.First.{first_placed}
+use Rattle.tl_code.proofs.Depths.{within_at, test_within}
 use Rattle.tl_code.proofs.Needed.{test_variables, test_handles}
 
-pub made : (t u : TestFor) (code xs ys : List Placed) (v h : ℕ) → u ≡ t → test_rule t.test t.ports ≡ None → code ≡ test_code (test_body t.ports t.test) → length code ≤ 5242881
+pub made : (t u : TestFor) (code xs ys : List Placed) (v h : ℕ) → u ≡ t → test_rule t.test t.ports ≡ None → greatest (map nested_forks t.test.body) ≤ 8 → code ≡ test_code (test_body t.ports t.test) → length code ≤ 5242881
     → xs ≡ code → v ≡ variable_slots xs → ys ≡ code → h ≡ handle_slots ys → IsCode (record { test = u; placed = code; variables = v; handles = h })
-made t u code xs ys v h e rule laid few ex ev ey eh =
+made t u code xs ys v h e rule deep laid few ex ev ey eh =
     subst (λ (u : TestFor). IsCode (record { test = u; placed = code; variables = v; handles = h })) (sym e)
     (record {
       rule = rule;
@@ -26,6 +28,7 @@ made t u code xs ys v h e rule laid few ex ev ey eh =
       variables = ev ∙ ap variable_slots (ex ∙ laid) ∙ test_variables (test_body t.ports t.test);
       handles = eh ∙ ap handle_slots (ey ∙ laid) ∙ test_handles (test_body t.ports t.test);
       few = few;
+      shallow = λ k x g. within_at 8 (test_code (test_body t.ports t.test)) (test_within t.ports t.test 8 deep) k x (sym (ap (λ c. slice_get c k) laid) ∙ g);
     })
 
 -- an equal copy

@@ -28,6 +28,8 @@ pub record IsCode (c : Compiled) : Type 0 where
   pub variables : c.variables ≡ most_vars (body_of_code c) []
   pub handles : c.handles ≡ most_handles (body_of_code c) []
   pub few : length c.placed ≤ 5242881
+  -- no place stands in more than eight forks
+  pub shallow : (k : ℕ) (x : Placed) → slice_get c.placed k ≡ Some x → x.depth ≤ 8
 
 -- ---- the state of a thread
 

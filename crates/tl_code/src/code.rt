@@ -1,5 +1,6 @@
 //! The code of a test.
-ghost use Rattle.std.specs.Prelude.{◌≡◌, ◌≤◌, None, Some, length, replicate, IfOk};
+ghost use Rattle.std.specs.Prelude.{◌≡◌, ◌≤◌, None, Some, length, map, replicate, IfOk};
+ghost use Rattle.tl_check.specs.Bounds.{greatest, nested_forks};
 ghost use Rattle.tl_check.specs.Walk.{test_rule};
 ghost use Rattle.tl_threads.specs.Bodies.{test_body};
 ghost use Rattle.tl_threads.specs.Code.{test_code};
@@ -52,6 +53,7 @@ fn write(alloc: Global, test: &CoreTest) -> Result<Vec<Placed>, Memory>
     ensures code { IfOk result (λ placed. placed.items ≡ test_code (test_body test.now.ports test.now.test)) }
     ensures few { IfOk result (λ placed. length placed.items ≤ 5242881) }
     ensures rule { IfOk result (λ placed. test_rule test.now.test test.now.ports ≡ None) }
+    ensures forks { IfOk result (λ placed. greatest (map nested_forks test.now.test.body) ≤ 8) }
 {
     let mut draft = Draft::new(alloc);
     let level = Level::first();
