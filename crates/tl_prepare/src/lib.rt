@@ -1,0 +1,9 @@
+//! The next action of a thread, worked out from the code of its test.
+#![tactic(auto)]
+
+mod act;
+mod runner;
+mod step;
+mod values;
+
+pub use act::Act;
