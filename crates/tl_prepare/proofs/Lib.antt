@@ -1,2 +1,4 @@
 pub mod Stacks
 pub mod Forking
+pub mod Reaching
+pub mod Noting

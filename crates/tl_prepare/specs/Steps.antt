@@ -57,10 +57,10 @@ Children r old new = Same old new
 abbrev pub Named : (handles : List (Option (List ℕ))) → (child : List ℕ) → Type 0
 Named handles child = (k : ℕ) × (slice_get handles k ≡ Some (Some child))
 
-abbrev pub NamesChild : Runner → Stepped → Type 0
-NamesChild old (Acts (act.Join l child)) = Named old.handles.items child
-NamesChild old (Acts (act.JoinStep l child)) = Named old.handles.items child
-NamesChild old r = Unit {0}
+abbrev pub NamesChild : (handles : List (Option (List ℕ))) → Stepped → Type 0
+NamesChild handles (Acts (act.Join l child)) = Named handles child
+NamesChild handles (Acts (act.JoinStep l child)) = Named handles child
+NamesChild handles r = Unit {0}
 
 -- THE STEP IS THE MACHINE'S, however it goes on
 pub record IsStep (full : Bool) (old : Runner) (i : Instr) (r : Stepped) (new : Runner) : Type 0 where
@@ -68,7 +68,7 @@ pub record IsStep (full : Bool) (old : Runner) (i : Instr) (r : Stepped) (new : 
   pub forward : r ≡ Jumped → old.pc < new.pc
   pub counted : r ≡ Went → full ≡ false
   pub children : Children r old new
-  pub child : NamesChild old r
+  pub child : NamesChild old.handles.items r
 
 abbrev pub IsFork : Instr → Type 0
 IsFork (instr.Fork l g slot to) = Unit {0}

@@ -2,6 +2,8 @@
 #![tactic(auto)]
 
 mod act;
+mod execute;
+mod notes;
 mod runner;
 mod step;
 mod values;
