@@ -54,18 +54,20 @@ block_within n (peek_port l p into k) c pc h = (omega arith, block_within n k c 
 block_within n (expect_port l p e k) c pc h = (omega arith, block_within n k c (suc pc) (omega arith))
 block_within n (step_by l m k) c pc h = (omega arith, block_within n k c (suc pc) (omega arith))
 block_within n (let_var l x e k) c pc h = (omega arith, block_within n k (with_var x c) (suc pc) (omega arith))
-block_within n (if_true l e a b k) c pc h =
-    (omega arith,
-     within_append n (block_code a c (suc pc)) _ (block_within n a c (suc pc) (omega arith))
-       (omega arith, within_append n (block_code b c _) _ (block_within n b c _ (omega arith)) (block_within n k c _ (omega arith))))
+block_within n (if_true l e a b k) c pc h = (
+  omega arith,
+  within_append n (block_code a c (suc pc)) _ (block_within n a c (suc pc) (omega arith))
+      (omega arith, within_append n (block_code b c _) _ (block_within n b c _ (omega arith)) (block_within n k c _ (omega arith))),
+)
 block_within n (while_true l e a k) c pc h =
     (omega arith, within_append n (block_code a c (suc pc)) _ (block_within n a c (suc pc) (omega arith)) (omega arith, block_within n k c _ (omega arith)))
 block_within n (repeat_by l e a k) c pc h =
     (omega arith, within_append n (block_code a (deeper c) (suc pc)) _ (block_within n a (deeper c) (suc pc) (omega arith)) (omega arith, block_within n k c _ (omega arith)))
-block_within n (fork_as l g x a k) c pc h =
-    (omega arith,
-     within_append n (block_code a (child_scope g c) (suc pc)) _ (block_within n a (child_scope g c) (suc pc) (omega arith))
-       (omega arith, block_within n k (with_handle x c) _ (omega arith)))
+block_within n (fork_as l g x a k) c pc h = (
+  omega arith,
+  within_append n (block_code a (child_scope g c) (suc pc)) _ (block_within n a (child_scope g c) (suc pc) (omega arith))
+      (omega arith, block_within n k (with_handle x c) _ (omega arith)),
+)
 block_within n (join_of l x k) c pc h = (omega arith, block_within n k c (suc pc) (omega arith))
 block_within n (joinstep_of l x k) c pc h = (omega arith, block_within n k c (suc pc) (omega arith))
 
@@ -115,7 +117,7 @@ module _ (ports : Ports) where
       let d : nested_forks (roll-TestStmt (map-TestStmt With TestStmt (λ t. t.0) y)) ≡ forks_level (depths_at y) = fold-roll-TestStmt ℕ forks_level (map-TestStmt With TestStmt (λ t. t.0) y) in
       let q : piece ports (roll-TestStmt (map-TestStmt With TestStmt (λ t. t.0) y)) ≡ level_piece ports (pieces_at y) = fold-roll-TestStmt Piece (level_piece ports) (map-TestStmt With TestStmt (λ t. t.0) y) in
       subst (λ (n : ℕ). forks_in (piece ports (roll-TestStmt (map-TestStmt With TestStmt (λ t. t.0) y)) g k) ≤ max n (forks_in k)) (sym d)
-        (subst (λ (p : Piece). forks_in (p g k) ≤ max (forks_level (depths_at y)) (forks_in k)) (sym q) (level_deep y g k))))
+      (subst (λ (p : Piece). forks_in (p g k) ≤ max (forks_level (depths_at y)) (forks_in k)) (sym q) (level_deep y g k))))
 
   stmts_deep : (ss : List TestStmt) (g : Region) (k : Body) → forks_in (chain (map (piece ports) ss) g k) ≤ max (greatest (map nested_forks ss)) (forks_in k)
   stmts_deep [] g k = omega arith

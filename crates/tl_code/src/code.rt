@@ -87,7 +87,7 @@ pub fn compile(alloc: Global, test: &CoreTest) -> Result<Code, Memory>
 }
 
 /// So many slots for handles, none of which names a child.
-fn no_handles(alloc: Global, count: usize) -> Result<Seq<Option<Path>>, Memory>
+pub fn no_handles(alloc: Global, count: usize) -> Result<Seq<Option<Path>>, Memory>
     ensures { IfOk result (λ handles. handles ≡ replicate count None) }
 {
     let mut handles = Vec::new(alloc);
@@ -131,7 +131,8 @@ impl Code {
 
     /// The instructions, each with what is known at its place.
     pub fn placed(&self) -> &[Placed]
-        ensures { result.now ≡ self.now.placed }
+        ensures is { result.now ≡ self.now.placed }
+        ensures code { IsCode self.now }
     {
         self.placed.as_slice()
     }

@@ -12,5 +12,5 @@ mod operands;
 mod slots;
 mod state;
 
-pub use code::{Code, compile};
+pub use code::{Code, compile, no_handles};
 pub use state::{Fetched, ThreadState};

@@ -31,19 +31,19 @@ named_child handles new slot path j e =
     set_named (h ∷ hs) (suc k) = ap (λ l. option_map child_number h ∷ l) (set_named hs k)
 
 -- a fork is the machine's
-pub fork_is_step : (full : Bool) (old new : Runner) (l slot to : ℕ) (g : Region) → new.path ≡ old.path → new.pc ≡ to → new.locals ≡ old.locals → new.loops ≡ old.loops → new.forks ≡ old.forks + 1
-    → new.handles.items ≡ slice_set old.handles.items slot (Some (old.path ++ old.forks ∷ [])) → IsStep full old (instr.Fork l g slot to) (Forks l g (old.pc + 1)) new
-fork_is_step full old new l slot to g ep epc el eo ef eh = record {
+pub fork_is_step : (full : Bool) (old new : Runner) (l slot to : ℕ) (g : Region) (child : List ℕ) → child ≡ old.path ++ old.forks ∷ [] → new.path ≡ old.path → new.pc ≡ to → new.locals ≡ old.locals → new.loops ≡ old.loops → new.forks ≡ old.forks + 1
+    → new.handles.items ≡ slice_set old.handles.items slot (Some (old.path ++ old.forks ∷ [])) → IsStep full old (instr.Fork l g slot to) (Forks l g (old.pc + 1) child) new
+fork_is_step full old new l slot to g child ec ep epc el eo ef eh = record {
   same = λ jump go.
-    ap (λ hs. did to old.locals.items hs (reverse old.loops.items) (suc old.forks) (suc old.pc)) (sym (named_child old.handles.items new.handles.items slot old.path old.forks eh))
-    ∙ ap (λ n. did n old.locals.items (map (option_map child_number) new.handles.items) (reverse old.loops.items) (suc old.forks) (suc old.pc)) (sym epc)
-    ∙ ap (λ v. did new.pc v.items (map (option_map child_number) new.handles.items) (reverse old.loops.items) (suc old.forks) (suc old.pc)) (sym el)
-    ∙ ap (λ v. did new.pc new.locals.items (map (option_map child_number) new.handles.items) (reverse v.items) (suc old.forks) (suc old.pc)) (sym eo)
-    ∙ ap (λ n. did new.pc new.locals.items (map (option_map child_number) new.handles.items) (reverse new.loops.items) n (suc old.pc)) more
-    ∙ ap (λ n. did new.pc new.locals.items (map (option_map child_number) new.handles.items) (reverse new.loops.items) new.forks n) one;
+      ap (λ hs. did to old.locals.items hs (reverse old.loops.items) (suc old.forks) (suc old.pc)) (sym (named_child old.handles.items new.handles.items slot old.path old.forks eh))
+      ∙ ap (λ n. did n old.locals.items (map (option_map child_number) new.handles.items) (reverse old.loops.items) (suc old.forks) (suc old.pc)) (sym epc)
+      ∙ ap (λ v. did new.pc v.items (map (option_map child_number) new.handles.items) (reverse old.loops.items) (suc old.forks) (suc old.pc)) (sym el)
+      ∙ ap (λ v. did new.pc new.locals.items (map (option_map child_number) new.handles.items) (reverse v.items) (suc old.forks) (suc old.pc)) (sym eo)
+      ∙ ap (λ n. did new.pc new.locals.items (map (option_map child_number) new.handles.items) (reverse new.loops.items) n (suc old.pc)) more
+      ∙ ap (λ n. did new.pc new.locals.items (map (option_map child_number) new.handles.items) (reverse new.loops.items) new.forks n) one;
   forward = λ e. absurd (cc);
   counted = λ e. absurd (cc);
-  children = record { slot = slot; path = ep; handles = eh; forks = sym more };
+  children = record { slot = slot; path = ep; handles = eh; forks = sym more; named = ec };
   child = tt;
 }
   where

@@ -2,3 +2,5 @@ pub mod Stacks
 pub mod Forking
 pub mod Reaching
 pub mod Noting
+pub mod Completing
+pub mod Starting

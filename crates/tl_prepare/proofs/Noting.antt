@@ -32,9 +32,10 @@ notes_there xs pc i (k, e, s, p) (g, h, j) f =
     ((λ h. (h, sym (ap f p) ∙ held_at f xs k e s h ∙ ap (λ i. Some i) same)), λ h. h.0)
 
 pub notes_push : (xs ys : List Fetched) (pc : ℕ) (i j : Instr) → ys ≡ xs ++ record { pc = pc; instr = j } ∷ [] → j ≡ i → NotesMore xs ys pc i
-notes_push xs ys pc i j e d f =
-    ((λ h. let b = held_push f xs (record { pc = pc; instr = j }) (subst (λ l. HoldsAll f l) e h) in (b.0, b.1 ∙ ap (λ i. Some i) d)),
-     (λ h. subst (λ l. HoldsAll f l) (sym e) (push_held f xs (record { pc = pc; instr = j }) h.0 (h.1 ∙ ap (λ i. Some i) (sym d)))))
+notes_push xs ys pc i j e d f = (
+  (λ h. let b = held_push f xs (record { pc = pc; instr = j }) (subst (λ l. HoldsAll f l) e h) in (b.0, b.1 ∙ ap (λ i. Some i) d)),
+  (λ h. subst (λ l. HoldsAll f l) (sym e) (push_held f xs (record { pc = pc; instr = j }) h.0 (h.1 ∙ ap (λ i. Some i) (sym d)))),
+)
 
 -- places that are looked up
 

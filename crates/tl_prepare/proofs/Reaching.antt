@@ -109,7 +109,7 @@ forks_room : (f : Code) (limit n used : ℕ) (path : List ℕ) (at : Runner) (i 
 forks_room f limit zero used path at i d e r h k = absurd (cc)
 forks_room f limit (suc n) used path at i d e r h k =
     r (suc at.pc) (forks_step (nat_le limit used) (λ t. run f limit n used t) (λ t. run f limit n (suc used) t) (core_of_runner at) i d k
-      (sym (ap (λ o. step (nat_le limit used) (λ t. run f limit n used t) (λ t. run f limit n (suc used) t) (core_of_runner at) o) h) ∙ e))
+    (sym (ap (λ o. step (nat_le limit used) (λ t. run f limit n used t) (λ t. run f limit n (suc used) t) (core_of_runner at) o) h) ∙ e))
 
 pub room_here : (limit : ℕ) (code : List Placed) (start : Runner) (used : ℕ) (at : Runner) (fetched : List Fetched) (i : Instr) → Reaches limit code start used at fetched → code_at code at.pc ≡ Some i
     → IsFork i → length at.path < 8
@@ -124,7 +124,7 @@ module _ (limit : ℕ) (code : List Placed) (start : Runner) (used : ℕ) (at at
   pub reaches_jump : r ≡ Jumped → Reaches limit code start used at' new
   reaches_jump e =
       let s : (f : Code) (n : ℕ) → step (nat_le limit used) (λ t. run f limit n used t) (λ t. run f limit n (suc used) t) (core_of_runner at) (Some x) ≡ run f limit n used (core_of_runner at') =
-        λ f n. st.same (λ t. run f limit n used t) (λ t. run f limit n (suc used) t) ∙ ap (λ q. after q (λ t. run f limit n used t) (λ t. run f limit n (suc used) t) (core_of_runner at')) e in
+      λ f n. st.same (λ t. run f limit n used t) (λ t. run f limit n (suc used) t) ∙ ap (λ q. after q (λ t. run f limit n used t) (λ t. run f limit n (suc used) t) (core_of_runner at')) e in
       record {
         count = suc w.count;
         same = next_same limit start used used at at' old new x w.count w.same notes s;
@@ -137,7 +137,7 @@ module _ (limit : ℕ) (code : List Placed) (start : Runner) (used : ℕ) (at at
   pub reaches_went : r ≡ Went → Reaches limit code start (used + 1) at' new
   reaches_went e =
       let s : (f : Code) (n : ℕ) → step (nat_le limit used) (λ t. run f limit n used t) (λ t. run f limit n (suc used) t) (core_of_runner at) (Some x) ≡ run f limit n (suc used) (core_of_runner at') =
-        λ f n. st.same (λ t. run f limit n used t) (λ t. run f limit n (suc used) t) ∙ ap (λ q. after q (λ t. run f limit n used t) (λ t. run f limit n (suc used) t) (core_of_runner at')) e in
+      λ f n. st.same (λ t. run f limit n used t) (λ t. run f limit n (suc used) t) ∙ ap (λ q. after q (λ t. run f limit n used t) (λ t. run f limit n (suc used) t) (core_of_runner at')) e in
       let lt : used < limit = leb-false limit used (st.counted e) in
       let one : suc used ≡ used + 1 = omega arith in
       subst (λ u. Reaches limit code start u at' new) one (record {
@@ -178,25 +178,26 @@ module _ (limit : ℕ) (code : List Placed) (start : Runner) (used : ℕ) (at at
         child = subst (λ (q : Stepped). NamesChild start.handles.items q) (sym es) (act_child (Acts a) ea);
       }
 
-  fork_more : (l begin : ℕ) (g : Region) → r ≡ Forks l g begin → OneMore start at'
-  fork_more l begin g e =
-      let m : OneMore at at' = subst (λ (q : Stepped). Children q at at') e st.children in
+  fork_more : (l begin : ℕ) (g : Region) (child : List ℕ) → r ≡ Forks l g begin child → OneMore child start at'
+  fork_more l begin g child e =
+      let m : OneMore child at at' = subst (λ (q : Stepped). Children q at at') e st.children in
       record {
         slot = m.slot;
         path = m.path ∙ w.children.path;
         handles = m.handles ∙ ap (λ hs. slice_set hs m.slot (Some (at.path ++ at.forks ∷ []))) w.children.handles ∙ ap (λ p. slice_set start.handles.items m.slot (Some (p ++ at.forks ∷ []))) w.children.path
-          ∙ ap (λ n. slice_set start.handles.items m.slot (Some (start.path ++ n ∷ []))) w.children.forks;
+            ∙ ap (λ n. slice_set start.handles.items m.slot (Some (start.path ++ n ∷ []))) w.children.forks;
         forks = m.forks ∙ ap (λ n. suc n) w.children.forks;
+        named = m.named ∙ ap (λ p. p ++ at.forks ∷ []) w.children.path ∙ ap (λ n. start.path ++ n ∷ []) w.children.forks;
       }
 
-  pub gives_fork : (l begin : ℕ) (g : Region) (e : Executed) → r ≡ Forks l g begin → e.run ≡ at' → e.step ≡ Forks l g begin → e.fetched.items ≡ new → Gives limit start e
-  gives_fork l begin g e ea er es ef = record {
+  pub gives_fork : (l begin : ℕ) (g : Region) (child : List ℕ) (e : Executed) → r ≡ Forks l g begin child → e.run ≡ at' → e.step ≡ Forks l g begin child → e.fetched.items ≡ new → Gives limit start e
+  gives_fork l begin g child e ea er es ef = record {
     count = w.count + 1;
     done = record { doing = forks l g; core = core_of_runner at'; child = Some begin };
-    under = λ f h. did_under (Forks l g begin) (record { doing = forks l g; core = core_of_runner at'; child = Some begin }) ea (λ jump go. refl) f (subst (λ (l : List Fetched). HoldsAll f l) ef h);
-    stepped = λ jump go. ap (λ q. after q jump go (core_of_runner e.run)) es ∙ ap (λ v. after (Forks l g begin) jump go (core_of_runner v)) er;
-    children = subst (λ (q : Stepped). Children q start e.run) (sym es) (subst (λ (v : Runner). OneMore start v) (sym er) (fork_more l begin g ea));
-    child = subst (λ (q : Stepped). NamesChild start.handles.items q) (sym es) (act_child (Forks l g begin) ea);
+    under = λ f h. did_under (Forks l g begin child) (record { doing = forks l g; core = core_of_runner at'; child = Some begin }) ea (λ jump go. refl) f (subst (λ (l : List Fetched). HoldsAll f l) ef h);
+    stepped = λ jump go. ap (λ q. after q jump go (core_of_runner e.run)) es ∙ ap (λ v. after (Forks l g begin child) jump go (core_of_runner v)) er;
+    children = subst (λ (q : Stepped). Children q start e.run) (sym es) (subst (λ (v : Runner). OneMore child start v) (sym er) (fork_more l begin g child ea));
+    child = subst (λ (q : Stepped). NamesChild start.handles.items q) (sym es) (act_child (Forks l g begin child) ea);
   }
 
 -- what is placed where the thread stands

@@ -33,7 +33,7 @@ abbrev pub after : Stepped → (jump go : Go) → Core → Option Did
 after Jumped jump go s = jump s
 after Went jump go s = go s
 after (Acts a) jump go s = Some (record { doing = doing_of Main a; core = s; child = None })
-after (Forks l g begin) jump go s = Some (record { doing = forks l g; core = s; child = Some begin })
+after (Forks l g begin child) jump go s = Some (record { doing = forks l g; core = s; child = Some begin })
 after Stuck jump go s = None
 
 -- no child more
@@ -43,14 +43,15 @@ pub record Same (old new : Runner) : Type 0 where
   pub forks : new.forks ≡ old.forks
 
 -- one child more, which a slot names
-pub record OneMore (old new : Runner) : Type 0 where
+pub record OneMore (child : List ℕ) (old new : Runner) : Type 0 where
   pub slot : ℕ
   pub path : new.path ≡ old.path
   pub handles : new.handles.items ≡ slice_set old.handles.items slot (Some (old.path ++ old.forks ∷ []))
   pub forks : new.forks ≡ suc old.forks
+  pub named : child ≡ old.path ++ old.forks ∷ []
 
 abbrev pub Children : Stepped → (old new : Runner) → Type 0
-Children (Forks l g begin) old new = OneMore old new
+Children (Forks l g begin child) old new = OneMore child old new
 Children r old new = Same old new
 
 -- an act on a child is one on a child that a slot names
@@ -60,6 +61,8 @@ Named handles child = (k : ℕ) × (slice_get handles k ≡ Some (Some child))
 abbrev pub NamesChild : (handles : List (Option (List ℕ))) → Stepped → Type 0
 NamesChild handles (Acts (act.Join l child)) = Named handles child
 NamesChild handles (Acts (act.JoinStep l child)) = Named handles child
+-- a fork is no plain act
+NamesChild handles (Acts (act.Fork l child)) = ⊥
 NamesChild handles r = Unit {0}
 
 -- THE STEP IS THE MACHINE'S, however it goes on

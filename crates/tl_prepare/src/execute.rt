@@ -64,6 +64,7 @@ pub fn execute(
                 line,
                 region,
                 begin,
+                child,
             } => {
                 return Ok(Executed {
                     run,
@@ -71,6 +72,7 @@ pub fn execute(
                         line,
                         region,
                         begin,
+                        child,
                     },
                     fetched: notes.into_fetched(),
                 });

@@ -4,8 +4,10 @@
 mod act;
 mod execute;
 mod notes;
+mod prepared;
 mod runner;
 mod step;
 mod values;
 
 pub use act::Act;
+pub use prepared::{Prepared, prepare};

@@ -1,5 +1,7 @@
 //! A thread whose code is executed.
 ghost use Rattle.std.specs.Prelude.{◌≡◌, IfOk};
+ghost use Rattle.tl_code.specs.Codes.{core_of};
+ghost use Rattle.tl_prepare.specs.Steps.{core_of_runner};
 
 use std::alloc::Global;
 use tb_base::{Memory, Path};
@@ -20,11 +22,9 @@ pub struct Runner {
 impl Runner {
     /// The thread of a state, or `Memory`.
     pub fn of(alloc: Global, from: &ThreadState) -> Result<Runner, Memory>
+        ensures core { IfOk result (λ run. core_of_runner run ≡ core_of from.now) }
         ensures path { IfOk result (λ run. run.path ≡ from.now.path) }
-        ensures pc { IfOk result (λ run. run.pc ≡ from.now.pc) }
-        ensures locals { IfOk result (λ run. run.locals.items ≡ from.now.locals) }
         ensures handles { IfOk result (λ run. run.handles.items ≡ from.now.handles) }
-        ensures loops { IfOk result (λ run. run.loops.items ≡ from.now.loops) }
         ensures forks { IfOk result (λ run. run.forks ≡ from.now.forks) }
     {
         let ThreadState {

@@ -25,6 +25,7 @@ pub enum Stepped {
         line: u32,
         region: Region,
         begin: u32,
+        child: Path,
     },
     /// Nothing goes on.
     Stuck,
@@ -233,14 +234,7 @@ fn name_child(handles: &mut Vec<Option<Path>>, slot: u32, child: Path)
     }
 }
 
-fn fork(
-    run: &mut Runner,
-    line: u32,
-    region: Region,
-    slot: u32,
-    after: u32,
-    full: bool,
-) -> Stepped
+fn fork(run: &mut Runner, line: u32, region: Region, slot: u32, after: u32, full: bool) -> Stepped
     requires place { run.old.pc < u32.MAX }
     requires forks { run.old.forks < u32.MAX }
     requires path { length run.old.path < 8 }
@@ -250,13 +244,14 @@ fn fork(
     let Some(child) = run.path.child(run.forks) else {
         unreachable!()
     };
-    name_child(&mut run.handles, slot, child);
+    name_child(&mut run.handles, slot, child.copy());
     run.forks += 1;
     run.pc = after;
     Stepped::Forks {
         line,
         region,
         begin,
+        child,
     }
 }
 
@@ -285,12 +280,7 @@ fn joinstep(run: &mut Runner, line: u32, slot: u32, full: bool) -> Stepped
 }
 
 /// Executes one instruction; `full` says that no local statement may be executed before the next act.
-pub fn step(
-    alloc: Global,
-    run: &mut Runner,
-    instr: &Instr,
-    full: bool,
-) -> Result<Stepped, Memory>
+pub fn step(alloc: Global, run: &mut Runner, instr: &Instr, full: bool) -> Result<Stepped, Memory>
     requires place { run.old.pc < u32.MAX }
     requires forks { run.old.forks < u32.MAX }
     requires path { IsFork instr.now → length run.old.path < 8 }

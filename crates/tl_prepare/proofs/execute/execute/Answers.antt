@@ -40,7 +40,7 @@ returns-in-Acts-clause-fetched c = rw c.into_fetched.ensures (noted c.args.limit
 
 pub returns-in-Forks-clause-gives : goal.returns-in-Forks-clause-gives
 returns-in-Forks-clause-gives c =
-    gives_fork c.args.limit c.args.code.now c.args.start c.steps.used c.steps.run c.step.new.run c.steps.notes c.note.new.self c.in-Some.placed.now.instr c.in_ok-step.field-0 c.steps.invariant (placed_is c.args.code.now c.steps.run.pc c.in-Some.placed.now c.in-Some.ensures) c.in_ok-note.ensures c.in_ok-step.ensures c.in-Forks.line c.in-Forks.begin c.in-Forks.region _ c.in-Forks.is refl refl c.into_fetched-in-Forks.ensures
+    gives_fork c.args.limit c.args.code.now c.args.start c.steps.used c.steps.run c.step.new.run c.steps.notes c.note.new.self c.in-Some.placed.now.instr c.in_ok-step.field-0 c.steps.invariant (placed_is c.args.code.now c.steps.run.pc c.in-Some.placed.now c.in-Some.ensures) c.in_ok-note.ensures c.in_ok-step.ensures c.in-Forks.line c.in-Forks.begin c.in-Forks.region c.in-Forks.child _ c.in-Forks.is refl refl c.into_fetched-in-Forks.ensures
 
 pub returns-in-Forks-clause-fetched : goal.returns-in-Forks-clause-fetched
 returns-in-Forks-clause-fetched c = rw c.into_fetched-in-Forks.ensures (noted c.args.limit c.args.code.now c.args.start c.steps.used c.steps.run c.step.new.run c.steps.notes c.note.new.self c.in-Some.placed.now.instr c.in_ok-step.field-0 c.steps.invariant (placed_is c.args.code.now c.steps.run.pc c.in-Some.placed.now c.in-Some.ensures) c.in_ok-note.ensures c.in_ok-step.ensures)
