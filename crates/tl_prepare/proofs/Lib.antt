@@ -4,3 +4,4 @@ pub mod Reaching
 pub mod Noting
 pub mod Completing
 pub mod Starting
+pub mod Moving

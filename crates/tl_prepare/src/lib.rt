@@ -3,6 +3,7 @@
 
 mod act;
 mod execute;
+pub mod laws;
 mod notes;
 mod prepared;
 mod runner;
