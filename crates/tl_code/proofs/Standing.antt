@@ -7,14 +7,14 @@ use Rattle.tl_threads.specs.declared.code.Placed.{Placed}
 use Rattle.tl_threads.specs.Allowed.{RulesStand}
 use Rattle.tl_threads.specs.Bodies.{Body}
 use Rattle.tl_threads.specs.Code.{test_code}
-use Rattle.tl_threads.specs.Fits.{FitsPlace, FitsCode, CodeOf, FitsStands, RootStands, root_core}
+use Rattle.tl_threads.specs.Fits.{FitsPlace, FitsCode, CodeOf, StandsFits, FitsStands, RootStands, root_core}
 use Rattle.tl_threads.specs.Machine.{Core}
 use Rattle.tl_threads.specs.Stands.{Places, HasAt, Stands}
 use Rattle.tl_threads.specs.Threads.{Inner, root_of}
 use Rattle.tl_code.specs.declared.state.ThreadState.{ThreadState}
 use Rattle.tl_code.specs.Compiled.{Compiled}
 use Rattle.tl_code.specs.Codes.{IsCode, FitsAt, Fits, body_of_code, places, child_number, core_of, root_state}
-use Rattle.tl_code.specs.Laws.{PlacesStand, FittingStands, RootStateStands}
+use Rattle.tl_code.specs.Laws.{PlacesStand, FittingStands, RootStateStands, StandingFits, RootOwnsChildren}
 use Rattle.tl_code.proofs.First.{has_behind, some_within}
 
 pub places_stand : RulesStand → PlacesStand
@@ -51,3 +51,38 @@ pub root_stands : PlacesStand → RootStands → RootStateStands
 root_stands stand root c is =
     subst (λ hs. Stands c.variables c.handles (places c) 0 Main (record { pc = 0; locals = replicate c.variables 0; handles = hs; loops = []; forks = 0 }) (root_of (body_of_code c)))
     (sym (no_children c.handles)) (root c.variables c.handles (places c) (body_of_code c) (stand c is))
+
+-- the child whose number a slot has in the machine
+child_of_number : (o : Option (Option (List ℕ))) (j : ℕ) → option_map (option_map child_number) o ≡ Some (Some j) → (child : List ℕ) × (o ≡ Some (Some child))
+child_of_number None j e = absurd (cc)
+child_of_number (Some None) j e = absurd (cc)
+child_of_number (Some (Some child)) j e = (child, refl)
+
+pub standing_fits : StandsFits → StandingFits
+standing_fits fits c s i st own joined acts few =
+    let f = fits c.variables c.handles (places c) (length s.path) s.region (core_of s) i st in (
+      f.0,
+      f.1,
+      record {
+        path = f.2.same_depth;
+        region = f.2.same_region;
+        locals = f.2.locals_len;
+        slots = sym (length-map s.handles (option_map child_number)) ∙ f.2.handles_len;
+        children = λ k lt.
+            let n = f.2.children k lt in
+            let h = child_of_number (slice_get s.handles k) n.0 (sym (slice_get-map (option_map child_number) s.handles k) ∙ n.1) in
+            (h.0, h.1, own k h.0 h.1);
+        joined = joined;
+        loops = sym (length-reverse s.loops) ∙ f.2.counts;
+        acts = acts;
+        forks = few;
+      },
+    )
+
+no_child_there : (n k : ℕ) (child : List ℕ) → slice_get (replicate n None) k ≡ Some (Some child) → ⊥
+no_child_there zero k child e = absurd (cc)
+no_child_there (suc n) zero child e = absurd (cc)
+no_child_there (suc n) (suc k) child e = no_child_there n k child e
+
+pub root_owns_children : RootOwnsChildren
+root_owns_children c k child e = absurd (no_child_there c.handles k child e)

@@ -45,6 +45,10 @@ IsJoined s (Some child) = IsChild s child
 abbrev pub NamesChild : ThreadState → ℕ → Type 0
 NamesChild s k = (child : List ℕ) × (slice_get s.handles k ≡ Some (Some child)) × IsChild s child
 
+-- each child that a slot names is one of the thread's own
+abbrev pub OwnChildren : ThreadState → Type 0
+OwnChildren s = (k : ℕ) (child : List ℕ) → slice_get s.handles k ≡ Some (Some child) → IsChild s child
+
 -- WHAT FITS what is placed at its place, in code with so many slots
 pub record FitsAt (x : Placed) (c : Compiled) (s : ThreadState) : Type 0 where
   -- as many numbers as there are forks round the place

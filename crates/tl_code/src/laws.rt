@@ -1,8 +1,9 @@
 //! Laws of code and of the states that fit it. What a function calls are the laws that it rests on.
-ghost use Rattle.tl_code.specs.Laws.{PlacesStand, FittingStands, RootStateStands};
+ghost use Rattle.tl_code.specs.Laws.{PlacesStand, FittingStands, RootStateStands, StandingFits, RootOwnsChildren};
 
 use tl_threads::laws::{
     rules_make_the_code_stand, the_beginning_stands_for_the_root, what_fits_stands,
+    what_stands_fits,
 };
 
 /// Each place of code stands for threads of its test: the instructions are those of the test's body, each name that is used is known, and
@@ -28,3 +29,16 @@ pub fn the_root_state_stands()
     the_places_stand();
     the_beginning_stands_for_the_root();
 }
+
+/// A state that stands for a thread under code fits the code, where each child that it names is its own and its numbers of acts and forks
+/// are below the greatest.
+pub fn a_standing_state_fits()
+    ensures { StandingFits }
+{
+    what_stands_fits();
+}
+
+/// The state at the beginning names no child.
+pub fn the_root_state_names_no_child()
+    ensures { RootOwnsChildren }
+{}

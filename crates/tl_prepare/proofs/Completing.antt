@@ -16,7 +16,7 @@ use Rattle.tl_prepare.specs.declared.step.Stepped.TheVariants.{Jumped, Went, Act
 use Rattle.tl_prepare.specs.Steps.{core_of_runner, doing_of, after, Same, OneMore, Children, Named, NamesChild}
 use Rattle.tl_prepare.specs.Runs.{HoldsAll, Gives}
 use Rattle.tl_prepare.specs.Work.{Work}
-use Rattle.tl_prepare.specs.Given.{joined_by, moved, stayed, state_after, newborn, next_child, OfChild, HandlesAfter, IsNext, IsBorn, region_of, most_local, Ran, IsPrepared}
+use Rattle.tl_prepare.specs.Given.{joined_by, moved, stayed, state_after, newborn, next_child, OfChild, ChildrenAfter, IsNext, IsBorn, region_of, most_local, Ran, IsPrepared}
 
 nothing : Go
 nothing s = None
@@ -30,17 +30,17 @@ did_act a r = record { doing = doing_of Main a; core = core_of_runner r; child =
 did_fork : (line begin : ℕ) → Region → Runner → Did
 did_fork l begin g r = record { doing = forks l g; core = core_of_runner r; child = Some begin }
 
-next_of_act : (a : Act) (s : ThreadState) (r : Runner) → r.path ≡ s.path → r.handles.items ≡ s.handles → IsNext s (did_act a r) a (state_after s r a)
+next_of_act : (a : Act) (s : ThreadState) (r : Runner) → r.path ≡ s.path → r.handles.items ≡ s.handles → r.forks ≡ s.forks → IsNext s (did_act a r) a (state_after s r a)
 unfolding did_act
-next_of_act (act.Poke l p raw) s r p1 h1 = record { core = refl; path = p1; region = refl; acts = refl; joined = refl; handles = inl h1 }
-next_of_act (act.Peek l p into) s r p1 h1 = record { core = refl; path = p1; region = refl; acts = refl; joined = refl; handles = inl h1 }
-next_of_act (act.Expect l p wanted) s r p1 h1 = record { core = refl; path = p1; region = refl; acts = refl; joined = refl; handles = inl h1 }
-next_of_act (act.Fork l child) s r p1 h1 = record { core = refl; path = p1; region = refl; acts = refl; joined = refl; handles = inl h1 }
-next_of_act (act.Join l child) s r p1 h1 = record { core = refl; path = p1; region = refl; acts = refl; joined = refl; handles = inl h1 }
-next_of_act (act.Arrive l n) s r p1 h1 = record { core = refl; path = p1; region = refl; acts = refl; joined = refl; handles = inl h1 }
-next_of_act (act.JoinStep l child) s r p1 h1 = record { core = refl; path = p1; region = refl; acts = refl; joined = refl; handles = inl h1 }
-next_of_act (act.Spend l) s r p1 h1 = record { core = refl; path = refl; region = refl; acts = refl; joined = refl; handles = inl refl }
-next_of_act act.End s r p1 h1 = record { core = refl; path = refl; region = refl; acts = refl; joined = refl; handles = inl refl }
+next_of_act (act.Poke l p raw) s r p1 h1 f1 = record { core = refl; path = p1; region = refl; acts = refl; joined = refl; children = inl (h1, f1) }
+next_of_act (act.Peek l p into) s r p1 h1 f1 = record { core = refl; path = p1; region = refl; acts = refl; joined = refl; children = inl (h1, f1) }
+next_of_act (act.Expect l p wanted) s r p1 h1 f1 = record { core = refl; path = p1; region = refl; acts = refl; joined = refl; children = inl (h1, f1) }
+next_of_act (act.Fork l child) s r p1 h1 f1 = record { core = refl; path = p1; region = refl; acts = refl; joined = refl; children = inl (h1, f1) }
+next_of_act (act.Join l child) s r p1 h1 f1 = record { core = refl; path = p1; region = refl; acts = refl; joined = refl; children = inl (h1, f1) }
+next_of_act (act.Arrive l n) s r p1 h1 f1 = record { core = refl; path = p1; region = refl; acts = refl; joined = refl; children = inl (h1, f1) }
+next_of_act (act.JoinStep l child) s r p1 h1 f1 = record { core = refl; path = p1; region = refl; acts = refl; joined = refl; children = inl (h1, f1) }
+next_of_act (act.Spend l) s r p1 h1 f1 = record { core = refl; path = refl; region = refl; acts = refl; joined = refl; children = inl (refl, refl) }
+next_of_act act.End s r p1 h1 f1 = record { core = refl; path = refl; region = refl; acts = refl; joined = refl; children = inl (refl, refl) }
 
 child_of_act : (a : Act) (s : ThreadState) (handles : List (Option (List ℕ))) → handles ≡ s.handles → NamesChild handles (Acts a) → OfChild s a
 child_of_act (act.Poke l p raw) s hs e n = tt
@@ -66,7 +66,7 @@ act_given s a e es ran =
       under = λ f h. ap (λ c. run f most_local g.count 0 c) (sym ran.core) ∙ g.under f h;
       act = ap (λ d. d.doing) d;
       of_child = child_of_act a s ran.start.handles.items ran.handles (subst (λ (q : Stepped). NamesChild ran.start.handles.items q) es g.child);
-      next = subst (λ (d : Did). IsNext s d a (state_after s e.run a)) (sym d) (next_of_act a s e.run (m.path ∙ ran.path) (m.handles ∙ ran.handles));
+      next = subst (λ (d : Did). IsNext s d a (state_after s e.run a)) (sym d) (next_of_act a s e.run (m.path ∙ ran.path) (m.handles ∙ ran.handles) (m.forks ∙ ran.forks));
       child = ap (λ d. d.child) d;
     }
 
@@ -95,7 +95,7 @@ fork_given s l begin g child e es ran =
       act = ap (λ d. d.doing) d;
       of_child = c;
       next = subst (λ (d : Did). IsNext s d (act.Fork l child) (moved s e.run None)) (sym d)
-          (record { core = refl; path = m.path ∙ ran.path; region = refl; acts = refl; joined = refl; handles = inr (m.slot, h) });
+          (record { core = refl; path = m.path ∙ ran.path; region = refl; acts = refl; joined = refl; children = inr (m.slot, h, m.forks ∙ ap (λ n. suc n) ran.forks) });
       child = (begin, ap (λ d. d.child) d, ap (λ p. newborn (moved s e.run None) p g begin) c);
     }
 

@@ -5,3 +5,4 @@ pub mod Noting
 pub mod Completing
 pub mod Starting
 pub mod Moving
+pub mod Owning

@@ -71,9 +71,16 @@ OfChild s (act.Join l child) = Named s.handles child
 OfChild s (act.JoinStep l child) = Named s.handles child
 OfChild s _ = Unit {0}
 
--- a slot may name the next child from now on
-abbrev pub HandlesAfter : (old new : ThreadState) → Type 0
-HandlesAfter s t = (t.handles ≡ s.handles) ⊎ ((slot : ℕ) × (t.handles ≡ slice_set s.handles slot (Some (next_child s))))
+-- no child more
+abbrev pub NoneMore : (old new : ThreadState) → Type 0
+NoneMore s t = (t.handles ≡ s.handles) × (t.forks ≡ s.forks)
+
+-- one child more, which a slot names
+abbrev pub OneChild : (old new : ThreadState) → Type 0
+OneChild s t = (slot : ℕ) × (t.handles ≡ slice_set s.handles slot (Some (next_child s))) × (t.forks ≡ suc s.forks)
+
+abbrev pub ChildrenAfter : (old new : ThreadState) → Type 0
+ChildrenAfter s t = NoneMore s t ⊎ OneChild s t
 
 -- the state behind what was done
 pub record IsNext (s : ThreadState) (done : Did) (a : Act) (t : ThreadState) : Type 0 where
@@ -82,7 +89,7 @@ pub record IsNext (s : ThreadState) (done : Did) (a : Act) (t : ThreadState) : T
   pub region : t.region ≡ s.region
   pub acts : t.acts ≡ s.acts + 1
   pub joined : t.joined ≡ joined_by a
-  pub handles : HandlesAfter s t
+  pub children : ChildrenAfter s t
 
 -- the state of the child, where one begins
 abbrev pub IsBorn : (s next : ThreadState) → (begin : Option ℕ) → Option ThreadState → Type 0

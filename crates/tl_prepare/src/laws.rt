@@ -1,5 +1,5 @@
 //! Laws of prepared actions. What a function calls are the laws that it rests on.
-ghost use Rattle.tl_prepare.specs.Laws.{PreparedIsNext};
+ghost use Rattle.tl_prepare.specs.Laws.{PreparedIsNext, ChildrenStayOwn};
 
 use tl_threads::laws::{code_does_the_next_move, code_gives_one_action};
 
@@ -11,3 +11,9 @@ pub fn what_is_prepared_is_the_next_move()
     code_does_the_next_move();
     code_gives_one_action();
 }
+
+/// The states that are prepared of a state which names its own children alone name their own children alone, and so does what they say of a
+/// join. So they fit each code under which they stand for threads, where their numbers of acts and forks are below the greatest.
+pub fn children_stay_own()
+    ensures { ChildrenStayOwn }
+{}

@@ -1,5 +1,6 @@
 //! The next action of a thread.
 ghost use Rattle.std.specs.Prelude.{◌≡◌, ◌<◌, ◌++◌, ◌∷◌, [], None, suc, length, replicate, IfOk};
+ghost use Rattle.std.specs.Option.{option_copied};
 ghost use Rattle.tl_code.specs.Codes.{Fits};
 ghost use Rattle.tl_prepare.specs.Steps.{core_of_runner};
 ghost use Rattle.tl_prepare.specs.Runs.{code_at, HoldsAll};
@@ -213,6 +214,13 @@ impl Prepared {
         ensures { result.now ≡ self.now.next }
     {
         &self.next
+    }
+
+    /// The state of the child that is forked, at its beginning.
+    pub fn child(&self) -> Option<&ThreadState>
+        ensures { option_copied result ≡ self.now.child }
+    {
+        self.child.as_ref()
     }
 
     /// The instructions that were read, each with its place.
