@@ -7,3 +7,4 @@ pub mod Made
 pub mod Laying
 pub mod Parts
 pub mod Standing
+pub mod Alike

@@ -1,5 +1,5 @@
 //! The code of a test.
-ghost use Rattle.std.specs.Prelude.{◌≡◌, ◌≤◌, None, Some, length, map, replicate, IfOk};
+ghost use Rattle.std.specs.Prelude.{◌≡◌, ◌↔◌, ◌≤◌, true, None, Some, length, map, replicate, IfOk};
 ghost use Rattle.tl_check.specs.Bounds.{greatest, nested_forks};
 ghost use Rattle.tl_check.specs.Walk.{test_rule};
 ghost use Rattle.tl_threads.specs.Bodies.{test_body};
@@ -12,6 +12,7 @@ use crate::draft::Draft;
 use crate::emit::emit_block;
 use crate::fits::{Slots, fits_at};
 use crate::level::Level;
+use crate::same::{same_ports, same_text};
 use crate::slots::{handle_slots, variable_slots};
 use crate::state::{Fetched, ThreadState};
 use net_core::PortTable;
@@ -205,6 +206,14 @@ impl Code {
             }
         }
         true
+    }
+
+    /// Whether both are the code of one test for one table of ports. Takes no memory, and its time is linear in the size of the lesser.
+    pub fn same(&self, other: &Code) -> bool
+        ensures { (result ≡ true) ↔ (self.now ≡ other.now) }
+    {
+        same_text(self.test.test(), other.test.test())
+            && same_ports(self.test.ports(), other.test.ports())
     }
 
     /// Equal code, or `Memory`. The time is linear in the size of the test; operands are shared.

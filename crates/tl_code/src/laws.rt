@@ -1,10 +1,24 @@
 //! Laws of code and of the states that fit it. What a function calls are the laws that it rests on.
 ghost use Rattle.tl_code.specs.Laws.{PlacesStand, FittingStands, RootStateStands, StandingFits, RootOwnsChildren};
 
+use crate::code::Code;
+use crate::state::ThreadState;
 use tl_threads::laws::{
     rules_make_the_code_stand, the_beginning_stands_for_the_root, what_fits_stands,
     what_stands_fits,
 };
+
+fn shared<T: Send + Sync>(_value: &T) {}
+
+/// Code can be sent to other threads of the program, and be read by several at once.
+pub fn code_can_be_shared(code: &Code) {
+    shared(code)
+}
+
+/// The state of a thread can be sent to another thread of the program.
+pub fn states_can_be_shared(state: &ThreadState) {
+    shared(state)
+}
 
 /// Each place of code stands for threads of its test: the instructions are those of the test's body, each name that is used is known, and
 /// there are slots enough.

@@ -9,6 +9,7 @@ pub mod laws;
 mod level;
 mod names;
 mod operands;
+mod same;
 mod slots;
 mod state;
 
