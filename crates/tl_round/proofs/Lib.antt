@@ -1,0 +1,5 @@
+pub mod Chunks
+pub mod Tokens
+pub mod Sound
+pub mod Keeps
+pub mod Depth
