@@ -1,6 +1,6 @@
 -- How deep the parentheses of a printed expression are nested: no deeper than those of a text that spells it.
 use Rattle.std.proofs.Common.{◌≡◌, ℕ, zero, suc, ◌+◌, ◌-◌, ◌<◌, ◌≤◌, ◌^◌, Bool, true, false, List, [], ◌∷◌, refl, sym, ap, ◌∙◌, subst, arith}
-use Rattle.std.specs.Prelude.{◌==◌, ◌&&◌, max, nat_lt, Option, Some, None}
+use Rattle.std.specs.Prelude.{◌==◌, ◌&&◌, max, nat_lt, if◌then◌else◌, Option, Some, None}
 use Rattle.std.proofs.lemmas.Bool.{and_parts, and_from}
 use Rattle.std.proofs.lemmas.Bool.Decides.{nat_tests}
 use Rattle.text_grammar.specs.declared.item.Item.{Item}
@@ -35,7 +35,7 @@ suc_if false n = n
 -- how many parentheses are open at once, in a place that asks for a tightness
 abbrev pub depth_level : TestExpr-F (ℕ → ℕ) → ℕ → ℕ
 depth_level (E.Num n) asked = 0
-depth_level (E.Var name) asked = 0
+depth_level (E.Var w) asked = 0
 depth_level (E.Neg x) asked = x minus_asks
 depth_level (E.Two o a b) asked = suc_if (nat_lt (tightness o) asked) (max (a (left_asks o)) (b (right_asks o)))
 
@@ -44,7 +44,7 @@ depth = fold-TestExpr (ℕ → ℕ) depth_level
 
 abbrev pub sound_level : TestExpr-F Bool → Bool
 sound_level (E.Num n) = nat_lt n (2 ^ 128)
-sound_level (E.Var name) = is_word_text name
+sound_level (E.Var w) = is_word_text w
 sound_level (E.Neg x) = x
 sound_level (E.Two o a b) = a && b
 
@@ -172,7 +172,7 @@ loose_is : (n : ℕ) (found : Option TestOp) (o : TestOp) → if_loose n found �
 loose_is n None o h = absurd cc
 loose_is n (Some p) o h = by (looseness p == n) refl h
   where
-    by : (x : Bool) → (looseness p == n) ≡ x → (elim x as (λ y. Option TestOp) [ true ↦ Some p | false ↦ None ]) ≡ Some o → looseness o ≡ n
+    by : (x : Bool) → (looseness p == n) ≡ x → (if x then Some p else None) ≡ Some o → looseness o ≡ n
     by true k q = let same : p ≡ o = cc in let is : looseness p ≡ n = grind (arith, nat_tests) in subst (λ z. looseness z ≡ n) same is
     by false k q = absurd cc
 

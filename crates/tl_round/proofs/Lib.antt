@@ -3,3 +3,5 @@ pub mod Tokens
 pub mod Sound
 pub mod Keeps
 pub mod Depth
+pub mod ExprSpelling
+pub mod ExprLines
