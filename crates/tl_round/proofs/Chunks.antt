@@ -78,33 +78,70 @@ pub says_text : {A : Type 0} {P : Part A} {b : Bool} {t u : List ℕ} {a : A} {p
 says_text {P = P} {b = b} {a = a} {p = p} {l = l} e h = subst (λ (z : List ℕ). Says P b z a p l) e h
 
 module _ {A B : Type 0} {P : Part A} {x y : Bool} {t u : List ℕ} {a : A} {b : B} {p : Place} {l m : ℕ} where
-  pub says_both : {C : Type 0} {Q : Part B} (f : A → B → C) → Says P x t a p l → ((q : Place) → q.line ≡ l → Says Q y u b q m)
+  pub says_join : {C : Type 0} {Q : Part B} (f : A → B → C) (h : Says P x t a p l) → Says Q y u b h.chunk.end m
       → ((rest : List ℕ) → Before y rest → Before x (u ++ rest)) → Says (both f P Q) y (t ++ u) (f a b) p m
   unfolding both
-  says_both {Q = Q} f h k seam =
-      let g : Says Q y u b h.chunk.end m = k h.chunk.end h.chunk.on in
-      record {
-        items = h.items ++ g.items;
-        chunk = chunk_both x y t u p h.items g.items l m h.chunk g.chunk seam;
-        spelled = (h.items, g.items, a, b, refl, h.spelled, g.spelled, refl);
-      }
+  says_join f h g seam = record {
+    items = h.items ++ g.items;
+    chunk = chunk_both x y t u p h.items g.items l m h.chunk g.chunk seam;
+    spelled = (h.items, g.items, a, b, refl, h.spelled, g.spelled, refl);
+  }
+
+  pub after_join : (Q : A → Part B) (h : Says P x t a p l) → Says (Q a) y u b h.chunk.end m
+      → ((rest : List ℕ) → Before y rest → Before x (u ++ rest)) → Says (after P Q) y (t ++ u) b p m
+  unfolding after
+  after_join Q h g seam = record {
+    items = h.items ++ g.items;
+    chunk = chunk_both x y t u p h.items g.items l m h.chunk g.chunk seam;
+    spelled = (h.items, g.items, a, refl, h.spelled, g.spelled);
+  }
+
+  pub says_both : {C : Type 0} {Q : Part B} (f : A → B → C) → Says P x t a p l → ((q : Place) → q.line ≡ l → Says Q y u b q m)
+      → ((rest : List ℕ) → Before y rest → Before x (u ++ rest)) → Says (both f P Q) y (t ++ u) (f a b) p m
+  says_both f h k seam = says_join f h (k h.chunk.end h.chunk.on) seam
 
   pub says_after : (Q : A → Part B) → Says P x t a p l → ((q : Place) → q.line ≡ l → Says (Q a) y u b q m)
       → ((rest : List ℕ) → Before y rest → Before x (u ++ rest)) → Says (after P Q) y (t ++ u) b p m
-  unfolding after
-  says_after Q h k seam =
-      let g : Says (Q a) y u b h.chunk.end m = k h.chunk.end h.chunk.on in
-      record {
-        items = h.items ++ g.items;
-        chunk = chunk_both x y t u p h.items g.items l m h.chunk g.chunk seam;
-        spelled = (h.items, g.items, a, refl, h.spelled, g.spelled);
-      }
+  says_after Q h k seam = after_join Q h (k h.chunk.end h.chunk.on) seam
+
+-- one more of many
+pub says_cons : {A : Type 0} {P : Part A} {x y : Bool} {t u : List ℕ} {a : A} {all : List A} {p : Place} {l m : ℕ} (begins : Item → Bool) → Says P x t a p l
+    → ((q : Place) → q.line ≡ l → Says (many begins P) y u all q m) → ((rest : List ℕ) → Before y rest → Before x (u ++ rest)) → Says (many begins P) y (t ++ u) (a ∷ all) p m
+unfolding many
+says_cons {x = x} {y = y} {t = t} {u = u} {p = p} {l = l} {m = m} begins h k seam =
+    let g = k h.chunk.end h.chunk.on in
+    record {
+      items = h.items ++ g.items;
+      chunk = chunk_both x y t u p h.items g.items l m h.chunk g.chunk seam;
+      spelled = (h.items, g.items, refl, h.spelled, g.spelled);
+    }
+
+pub says_none : {A : Type 0} (P : Part A) (begins : Item → Bool) (p : Place) → Says (many begins P) false [] [] p p.line
+unfolding many
+says_none P begins p = record { items = []; chunk = nothing_chunk p; spelled = refl }
+
+-- with blanks behind
+pub says_then : {A : Type 0} {P : Part A} {x : Bool} {t u : List ℕ} {a : A} {p : Place} {l m : ℕ} → Says P x t a p l → ((q : Place) → q.line ≡ l → Chunk false u q [] m)
+    → ((rest : List ℕ) → Before x (u ++ rest)) → Says P false (t ++ u) a p m
+says_then {P = P} {x = x} {t = t} {u = u} {a = a} {p = p} {l = l} {m = m} h k seam =
+    let g : Chunk false u h.chunk.end [] m = k h.chunk.end h.chunk.on in
+    record { items = h.items ++ []; chunk = chunk_both x false t u p h.items [] l m h.chunk g (λ rest e. seam rest); spelled = subst (λ (z : List Item). P.spells z a) (sym (append-nil h.items)) h.spelled }
 
 -- behind blanks
 pub says_behind : {A : Type 0} {P : Part A} {y : Bool} {t u : List ℕ} {a : A} {p : Place} {l m : ℕ} → Chunk false t p [] l → ((q : Place) → q.line ≡ l → Says P y u a q m) → Says P y (t ++ u) a p m
 says_behind {P = P} {y = y} {t = t} {u = u} {a = a} {p = p} {l = l} {m = m} h k =
     let g : Says P y u a h.end m = k h.end h.on in
     record { items = g.items; chunk = chunk_both false y t u p [] g.items l m h g.chunk (λ rest e. tt); spelled = g.spelled }
+
+pub behind_join : {A : Type 0} {P : Part A} {y : Bool} {t u : List ℕ} {a : A} {p : Place} {l m : ℕ} (h : Chunk false t p [] l) → Says P y u a h.end m → Says P y (t ++ u) a p m
+behind_join {y = y} {t = t} {u = u} {p = p} {l = l} {m = m} h g =
+    record { items = g.items; chunk = chunk_both false y t u p [] g.items l m h g.chunk (λ rest e. tt); spelled = g.spelled }
+
+-- two parts one behind the other, which spell a third
+pub join_as : {A B C : Type 0} {P : Part A} {Q : Part B} (R : Part C) {x y : Bool} {t u : List ℕ} {a : A} {b : B} (c : C) {p : Place} {l m : ℕ} (h : Says P x t a p l) → Says Q y u b h.chunk.end m
+    → ((rest : List ℕ) → Before y rest → Before x (u ++ rest)) → ((ts us : List Item) → P.spells ts a → Q.spells us b → R.spells (ts ++ us) c) → Says R y (t ++ u) c p m
+join_as R {x = x} {y = y} {t = t} {u = u} c {p = p} {l = l} {m = m} h g seam go =
+    record { items = h.items ++ g.items; chunk = chunk_both x y t u p h.items g.items l m h.chunk g.chunk seam; spelled = go h.items g.items h.spelled g.spelled }
 
 pub says_left : {A : Type 0} {P : Part A} {n : Bool} {t : List ℕ} {a : A} {p : Place} {l : ℕ} (test : Item → Bool) (Q : Part A) → Says P n t a p l → Says (either test P Q) n t a p l
 unfolding either

@@ -35,7 +35,7 @@ grows_more may sp (x ∷ path) a b c ts ys h allowed k =
 -- ---- operands and operators
 
 module _ (most : Option ℕ) (inside : ℕ → Part Counted) where
-  behind_none : (n : ℕ) (v : Counted) → (behind most inside n v).spells [] v
+  pub behind_none : (n : ℕ) (v : Counted) → (behind most inside n v).spells [] v
   unfolding behind after nothing grow
   behind_none zero v = (refl, refl)
   behind_none (suc n) v = ([], [], v, refl, behind_none n v, ([], (refl, refl)))

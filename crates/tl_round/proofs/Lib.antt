@@ -5,3 +5,5 @@ pub mod Keeps
 pub mod Depth
 pub mod ExprSpelling
 pub mod ExprLines
+pub mod Ports
+pub mod Lists

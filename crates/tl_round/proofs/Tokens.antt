@@ -61,14 +61,19 @@ cut_off tok t p rest some h =
     let goes = piece_goes [] (placed c.token p []) (items_from 0 p (t ++ rest)) p (place_behind p t) (t ++ rest) c (sym h) some low refl (ap (place_behind p) (sym (take-append_seam t rest))) refl in
     sym (subst (λ (z : List ℕ). record { place = p; token = tok } ∷ items_from 0 (place_behind p t) z ≡ items_from 0 p (t ++ rest)) (drop-append_seam t rest) goes)
 
+pub token_says : {A : Type 0} (P : Part A) (need : Bool) (tok : Token) (t : List ℕ) (a : A) (p : Place) → 1 ≤ length t → no_feed t ≡ true
+    → ((rest : List ℕ) → Before need rest → piece (t ++ rest) ≡ record { token = Some tok; len = length t })
+    → P.spells (record { place = p; token = tok } ∷ []) a → Says P need t a p p.line
+token_says P need tok t a p some free cuts sp = record {
+  items = record { place = p; token = tok } ∷ [];
+  chunk = record { end = place_behind p t; on = line_kept t p free; cut = λ rest e. cut_off tok t p rest some (cuts rest e) };
+  spelled = sp;
+}
+
 pub token_line : {A : Type 0} (P : Part A) (need : Bool) (tok : Token) (t : List ℕ) (a : A) → 1 ≤ length t → no_feed t ≡ true
     → ((rest : List ℕ) → Before need rest → piece (t ++ rest) ≡ record { token = Some tok; len = length t })
     → ((p : Place) → P.spells (record { place = p; token = tok } ∷ []) a) → Line P need t a
-token_line P need tok t a some free cuts sp p = record {
-  items = record { place = p; token = tok } ∷ [];
-  chunk = record { end = place_behind p t; on = line_kept t p free; cut = λ rest e. cut_off tok t p rest some (cuts rest e) };
-  spelled = sp p;
-}
+token_line P need tok t a some free cuts sp p = token_says P need tok t a p some free cuts (sp p)
 
 -- ---- words
 
@@ -132,6 +137,10 @@ word_no_feed (b ∷ w) h =
 word_some : (w : List ℕ) → is_word_text w ≡ true → 1 ≤ length w
 word_some [] h = absurd cc
 word_some (b ∷ w) h = omega arith
+
+pub word_says : {A : Type 0} (P : Part A) (w : List ℕ) (a : A) (p : Place) → is_word_text w ≡ true
+    → P.spells (record { place = p; token = token.Word w } ∷ []) a → Says P true w a p p.line
+word_says P w a p h sp = token_says P true (token.Word w) w a p (word_some w h) (word_no_feed w h) (λ rest e. word_piece w rest h e) sp
 
 pub word_line : {A : Type 0} (P : Part A) (w : List ℕ) (a : A) → is_word_text w ≡ true
     → ((p : Place) → P.spells (record { place = p; token = token.Word w } ∷ []) a) → Line P true w a
