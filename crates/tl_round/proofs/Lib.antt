@@ -7,3 +7,4 @@ pub mod ExprSpelling
 pub mod ExprLines
 pub mod Ports
 pub mod Lists
+pub mod Rows
