@@ -8,3 +8,4 @@ pub mod ExprLines
 pub mod Ports
 pub mod Lists
 pub mod Rows
+pub mod Blocks
