@@ -39,21 +39,26 @@ use Rattle.tl_round.proofs.Rows.{RowSaid, keeps_poke, keeps_expect, keeps_let, k
 
 -- ---- blocks
 
-abbrev lines_of : List TestStmt → List ℕ → List ℕ
+abbrev pub lines_of : List TestStmt → List ℕ → List ℕ
 lines_of body i = block_text (map stmt_text body) i
 
 -- from `{` to `}`, of a statement at the indentation i
-abbrev braces : List ℕ → List TestStmt → List ℕ
+abbrev pub braces : List ℕ → List TestStmt → List ℕ
 braces i body = codes "{" ++ (10 ∷ (lines_of body (deeper i) ++ (i ++ codes "}")))
 
-abbrev placed_from : List TestStmt → ℕ → List TestStmt × ℕ
+abbrev pub placed_from : List TestStmt → ℕ → List TestStmt × ℕ
 placed_from body line = in_turn (map stmt_placed body) line
 
-record BodySaid (block : Body) (body : List TestStmt) : Type 0 where
-  said : (i : List ℕ) → Blank i → (p : Place) → Says block false (braces i body) (placed_from body (p.line + 1)).0 p (placed_from body (p.line + 1)).1
+pub record BodySaid (block : Body) (body : List TestStmt) : Type 0 where
+  pub said : (i : List ℕ) → Blank i → (p : Place) → Says block false (braces i body) (placed_from body (p.line + 1)).0 p (placed_from body (p.line + 1)).1
 
 body_at : {block : Body} {body : List TestStmt} → BodySaid block body → (i : List ℕ) → Blank i → (p : Place) (line : ℕ) → p.line ≡ line → Says block false (braces i body) (placed_from body (line + 1)).0 p (placed_from body (line + 1)).1
 body_at {block = block} {body = body} h i blank p line e = subst (λ (n : ℕ). Says block false (braces i body) (placed_from body (n + 1)).0 p (placed_from body (n + 1)).1) e (h.said i blank p)
+
+-- a block, where it has a statement
+abbrev pub OtherSaid : Body → List TestStmt → Type 0
+OtherSaid block [] = Unit {0}
+OtherSaid block (x ∷ more) = BodySaid block (x ∷ more)
 
 -- ---- texts
 
@@ -111,14 +116,14 @@ module _ (block inner : Body) where
   behind_expr : (i : List ℕ) (c : TestExpr) (body : List TestStmt) → expr_text c ++ (32 ∷ (braces i body ++ 10 ∷ [])) ≡ (expr_text c ++ (32 ∷ braces i body)) ++ 10 ∷ []
   behind_expr i c body = sym (append_assoc (expr_text c) (32 ∷ braces i body) (10 ∷ []))
 
-  while_said : (l : ℕ) (c : TestExpr) (body : List TestStmt) → Good c → BodySaid block body → Row w.While (stmt.While l c body)
+  pub while_said : (l : ℕ) (c : TestExpr) (body : List TestStmt) → Good c → BodySaid block body → Row w.While (stmt.While l c body)
   unfolding row while_row
   while_said l c body g h = lines_said w.While _ (λ i. expr_text c ++ (32 ∷ braces i body)) (λ line. (stmt.While line c (placed_from body (line + 1)).0, (placed_from body (line + 1)).1))
       (λ i. while_text l c body i ∙ braced_is i (codes "while") (expr_text c) body ∙ ap (λ (y : List ℕ). i ++ (codes "while" ++ (32 ∷ y))) (behind_expr i c body))
       (λ line. ap (λ f. f line) (fold-While (Placed TestStmt) placed_level l c body))
       (λ i blank p. cond_block c body g h (λ a b. stmt.While p.line a b) i blank p)
 
-  repeat_said : (l : ℕ) (c : TestExpr) (body : List TestStmt) → Good c → BodySaid block body → Row w.Repeat (stmt.Repeat l c body)
+  pub repeat_said : (l : ℕ) (c : TestExpr) (body : List TestStmt) → Good c → BodySaid block body → Row w.Repeat (stmt.Repeat l c body)
   unfolding row repeat_row
   repeat_said l c body g h = lines_said w.Repeat _ (λ i. expr_text c ++ (32 ∷ braces i body)) (λ line. (stmt.Repeat line c (placed_from body (line + 1)).0, (placed_from body (line + 1)).1))
       (λ i. repeat_text l c body i ∙ braced_is i (codes "repeat") (expr_text c) body ∙ ap (λ (y : List ℕ). i ++ (codes "repeat" ++ (32 ∷ y))) (behind_expr i c body))
@@ -144,7 +149,7 @@ module _ (block inner : Body) where
       (λ q m. says_left (is_word (codes "else")) (nothing []) (says_behind (space_chunk q) (λ r n. says_both second (says_on (keyword_line (codes "else") refl refl r) n)
       (λ t o. says_behind (space_chunk t) (λ v z. body_at k i blank v at (z ∙ o ∙ m))) (λ rest z. refl)))) (λ rest z. tt)
 
-  if_said : (l : ℕ) (c : TestExpr) (taken other : List TestStmt) → Good c → BodySaid block taken → BodySaid block other → Row w.If (stmt.If l c taken other)
+  pub if_said : (l : ℕ) (c : TestExpr) (taken other : List TestStmt) → Good c → BodySaid block taken → OtherSaid block other → Row w.If (stmt.If l c taken other)
   unfolding row if_row
   if_said l c taken [] g h k = lines_said w.If _ (λ i. expr_text c ++ (32 ∷ braces i taken)) (λ line. (stmt.If line c (placed_from taken (line + 1)).0 [], (placed_from taken (line + 1)).1))
       (λ i. branches_text l c taken [] i ∙ braced_is i (codes "if") (expr_text c) taken ∙ ap (λ (y : List ℕ). i ++ (codes "if" ++ (32 ∷ y))) (behind_expr i c taken))
@@ -195,7 +200,7 @@ fork_says inner (Some Monitor) n body h k i blank p =
     (λ r m. says_as (λ ts sp. region_spelled inner p.line Monitor (codes "monitor") n ts _ refl sp) (says_behind (space_chunk r) (λ t o. says_after (forked inner p.line (Some Monitor)) (says_on (name_line n h t) (o ∙ m))
     (λ v z. handle_block inner p.line (Some Monitor) n body k i blank v z) (λ rest z. refl)))) (λ rest z. refl))
 
-fork_said : (block inner : Body) (l : ℕ) (region : Option Region) (n : List ℕ) (body : List TestStmt) → is_word_text n ≡ true → BodySaid inner body → RowSaid block inner w.Fork (stmt.Fork l region n body)
+pub fork_said : (block inner : Body) (l : ℕ) (region : Option Region) (n : List ℕ) (body : List TestStmt) → is_word_text n ≡ true → BodySaid inner body → RowSaid block inner w.Fork (stmt.Fork l region n body)
 unfolding row
 fork_said block inner l region n body h k = lines_said block inner w.Fork _ (λ i. (region_text region ++ n) ++ (32 ∷ braces i body)) (λ line. (stmt.Fork line region n (placed_from body (line + 1)).0, (placed_from body (line + 1)).1))
     (λ i. fork_text l region n body i ∙ braced_is i (codes "fork") (region_text region ++ n) body ∙ ap (λ (y : List ℕ). i ++ (codes "fork" ++ (32 ∷ y))) (sym (append_assoc (region_text region ++ n) (32 ∷ braces i body) (10 ∷ []))))

@@ -9,3 +9,4 @@ pub mod Ports
 pub mod Lists
 pub mod Rows
 pub mod Blocks
+pub mod Whole
