@@ -8,5 +8,6 @@ pub mod ExprLines
 pub mod Ports
 pub mod Lists
 pub mod Rows
+pub mod Unlined
 pub mod Blocks
 pub mod Whole
