@@ -8,9 +8,9 @@
 //! A law is a function without arguments that does nothing; its contract is the law.
 #![tactic(auto)]
 
-//mod examples;
-
-
+mod examples;
+#[cfg(test)]
+mod tests;
 
 ghost use Rattle.std.specs.Prelude.{◌≡◌, List, Some, ℕ};
 ghost use Rattle.tl_ast.specs.Printed.{printed_test};
@@ -18,7 +18,7 @@ ghost use Rattle.tl_ast.specs.Tests.{test_of, spells_test};
 ghost use Rattle.tl_ast.specs.declared.tree.TestText.{TestText};
 ghost use Rattle.tl_round.specs.Relined.{relined, SameButLines};
 
-//pub use examples::the_new_lines_work_out;
+pub use examples::the_new_lines_work_out;
 
 /// A law: a test with the lines of its printed form is the same test but for its lines.
 pub fn only_lines_change()
