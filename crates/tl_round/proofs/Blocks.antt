@@ -1,41 +1,28 @@
 -- Statements with blocks, blocks and whole tests are spelled again as they are printed.
-use Rattle.std.proofs.Common.{◌≡◌, ℕ, zero, suc, ◌+◌, Bool, true, false, List, [], ◌∷◌, ◌++◌, map, refl, sym, ap, ◌∙◌, append_assoc, append-nil, subst, inl, inr, arith}
+use Rattle.std.proofs.Common.{◌≡◌, ℕ, ◌+◌, true, false, List, [], ◌∷◌, ◌++◌, map, refl, sym, ap, ◌∙◌, append_assoc, append-nil, subst, inl, inr}
 use Rattle.std.specs.Prelude.{Option, Some, None, codes}
-use Rattle.std.specs.List.{flat_map}
 use Rattle.tb_base.specs.declared.path.Region.{Region}
 use Rattle.tb_base.specs.declared.path.Region.TheVariants.{Main, Monitor}
 use Rattle.tb_base.specs.declared.place.Place.{Place}
 use Rattle.text_grammar.specs.declared.item.Item.{Item}
-use Rattle.text_grammar.specs.declared.item.Symbol.TheVariants as s
-use Rattle.text_grammar.specs.declared.item.Token.TheVariants as token
-use Rattle.text_grammar.specs.declared.fault.Kind.TheVariants.{TooDeep}
-use Rattle.text_grammar.specs.Part.{Part, kind_of, first, second, one_by, both, after, either, nothing, optional, stop, many}
-use Rattle.text_grammar.specs.Terminals.{is_word, is_name, keyword, mark, name}
-use Rattle.tl_lex.specs.Lex.{items_from, items_of}
-use Rattle.text_grammar.specs.Lex.{text_start}
+use Rattle.text_grammar.specs.Part.{second, both, after, either, nothing}
+use Rattle.text_grammar.specs.Terminals.{is_word, keyword, name}
 use Rattle.tl_ast.specs.Printed as printed
 use Rattle.tl_ast.specs.Printed.{expr_text, region_text, fork_words, block_text, deeper, stmt_text, printed_test}
-use Rattle.tl_ast.specs.Tests.{spells_test}
 use Rattle.tl_ast.proofs.Rows.{branches_text, while_text, repeat_text, fork_text}
 use Rattle.tl_ast.specs.declared.tree.TestExpr.{TestExpr}
 use Rattle.tl_ast.specs.declared.tree.TestStmt.{TestStmt}
 use Rattle.tl_ast.specs.declared.tree.TestStmt.TheVariants as stmt
-use Rattle.tl_ast.specs.declared.tree.TestText.{TestText}
-use Rattle.tl_ast.specs.declared.tree.DriverKind.TheVariants as kind
 use Rattle.tl_ast.specs.declared.words.StmtWord.{StmtWord}
 use Rattle.tl_ast.specs.declared.words.StmtWord.TheVariants as w
 use Rattle.tl_ast.specs.ExprGrammar.{expr_limits, expr}
-use Rattle.tl_ast.specs.TestGrammar.{word_name, stmt_word, token_stmt_word, begins_stmt, is_forking, some_forking, too_many_forks, with_line, first_word, Body, else_block, pair, if_row, while_row, repeat_row, region_named, forked, fork_in, fork_row, row, fork_block, stmt_in, stmts_in, no_brace, block_within, make_test, test_within, test}
+use Rattle.tl_ast.specs.TestGrammar.{word_name, Body, else_block, pair, if_row, while_row, repeat_row, region_named, forked, fork_in, fork_row, row}
 use Rattle.tl_check.proofs.Unrolled.{fold-If, fold-While, fold-Repeat, fold-Fork}
-use Rattle.tl_round.specs.Relined.{Placed, in_turn, braced_at, if_at, behind_else, placed_level, stmt_placed, relined}
-use Rattle.tl_round.proofs.Chunks.{Before, Blank, Chunk, Line, Says, says_both, says_after, says_behind, says_then, says_on, says_as, says_text, says_left, says_right, says_nothing, says_cons, says_none, chunk_both, chunk_on, space_chunk, feed_chunk, nothing_chunk, line_both, line_spaced}
-use Rattle.tl_round.proofs.Tokens.{is_word_text, word_says, name_line, keyword_line, open_brace_line, close_brace_line}
-use Rattle.tl_round.proofs.Sound.{Sound, SoundToken, items_sound}
-use Rattle.tl_round.proofs.Keeps.{Keeps, Any, any, Each, keeps_to, keeps_both, keeps_after, keeps_either, keeps_nothing, keeps_stop, keeps_one, keeps_many, keeps_second, keeps_first}
-use Rattle.tl_round.proofs.Depth.{keeps_name}
-use Rattle.tl_round.proofs.Ports.{Good, good_line, keeps_good}
-use Rattle.tl_round.proofs.ExprLines.{line_as}
-use Rattle.tl_round.proofs.Rows.{RowSaid, keeps_poke, keeps_expect, keeps_let, keeps_set, keeps_peek, keeps_step, keeps_reset, keeps_join, keeps_join_step, keeps_driver}
+use Rattle.tl_round.specs.Relined.{Placed, in_turn, placed_level, stmt_placed}
+use Rattle.tl_round.proofs.Chunks.{Blank, Says, says_both, says_after, says_behind, says_then, says_on, says_as, says_text, says_left, says_right, says_nothing, chunk_on, space_chunk, feed_chunk}
+use Rattle.tl_round.proofs.Tokens.{is_word_text, name_line, keyword_line}
+use Rattle.tl_round.proofs.Ports.{Good, good_line}
+use Rattle.tl_round.proofs.Rows.{RowSaid}
 
 -- ---- blocks
 
@@ -141,7 +128,7 @@ module _ (block inner : Body) where
   -- and with one
   with_else : (i : List ℕ) → Blank i → (taken other : List TestStmt) → BodySaid block taken → BodySaid block other → (p : Place) (line : ℕ) → p.line ≡ line
       → Says (both pair block (else_block block)) false (braces i taken ++ (codes " else " ++ braces i other))
-        ((placed_from taken (line + 1)).0, (placed_from other ((placed_from taken (line + 1)).1 + 1)).0) p (placed_from other ((placed_from taken (line + 1)).1 + 1)).1
+      ((placed_from taken (line + 1)).0, (placed_from other ((placed_from taken (line + 1)).1 + 1)).0) p (placed_from other ((placed_from taken (line + 1)).1 + 1)).1
   unfolding else_block
   with_else i blank taken other h k p line e =
       let at = (placed_from taken (line + 1)).1 in
@@ -159,8 +146,8 @@ module _ (block inner : Body) where
   if_said l c taken (x ∷ more) g h k = lines_said w.If _ (λ i. expr_text c ++ (32 ∷ (braces i taken ++ (codes " else " ++ braces i (x ∷ more)))))
       (λ line. (stmt.If line c (placed_from taken (line + 1)).0 (placed_from (x ∷ more) ((placed_from taken (line + 1)).1 + 1)).0, (placed_from (x ∷ more) ((placed_from taken (line + 1)).1 + 1)).1))
       (λ i. branches_text l c taken (x ∷ more) i ∙ both_is i (expr_text c) taken x more ∙ ap (λ (y : List ℕ). i ++ (codes "if" ++ (32 ∷ y)))
-          (ap (λ (y : List ℕ). expr_text c ++ (32 ∷ y)) (sym (append_assoc (braces i taken) (codes " else " ++ braces i (x ∷ more)) (10 ∷ [])))
-          ∙ sym (append_assoc (expr_text c) (32 ∷ (braces i taken ++ (codes " else " ++ braces i (x ∷ more)))) (10 ∷ []))))
+      (ap (λ (y : List ℕ). expr_text c ++ (32 ∷ y)) (sym (append_assoc (braces i taken) (codes " else " ++ braces i (x ∷ more)) (10 ∷ [])))
+      ∙ sym (append_assoc (expr_text c) (32 ∷ (braces i taken ++ (codes " else " ++ braces i (x ∷ more)))) (10 ∷ []))))
       (λ line. ap (λ f. f line) (fold-If (Placed TestStmt) placed_level l c taken (x ∷ more)))
       (λ i blank p. says_behind (space_chunk p) (λ q e. says_both (λ a b. stmt.If p.line a b.0 b.1) (says_on (good_line c g q) e)
       (λ r m. says_behind (space_chunk r) (λ t n. with_else i blank taken (x ∷ more) h k t p.line (n ∙ m))) (λ rest z. refl)))

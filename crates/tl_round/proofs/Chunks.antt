@@ -1,9 +1,9 @@
 -- Parts of a printed text: they fall into items, whatever follows them, and these spell a part of the grammar.
 use Rattle.std.proofs.Common.{◌≡◌, ℕ, ◌+◌, Bool, true, false, List, [], ◌∷◌, ◌++◌, refl, sym, ap, ◌∙◌, append_assoc, append-nil, subst, inl, inr}
-use Rattle.std.specs.Prelude.{◌==◌, ◌||◌, slice_index, Option, Some, None}
+use Rattle.std.specs.Prelude.{◌==◌, ◌||◌, slice_index}
 use Rattle.tb_base.specs.declared.place.Place.{Place}
 use Rattle.text_grammar.specs.declared.item.Item.{Item}
-use Rattle.text_grammar.specs.Part.{Part, both, after, either, nothing, SpellsMany, many}
+use Rattle.text_grammar.specs.Part.{Part, both, after, either, nothing, many}
 use Rattle.tl_lex.specs.Pieces.{piece}
 use Rattle.tl_lex.specs.Lex.{place_after, items_from}
 

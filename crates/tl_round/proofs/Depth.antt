@@ -1,26 +1,25 @@
 -- How deep the parentheses of a printed expression are nested: no deeper than those of a text that spells it.
-use Rattle.std.proofs.Common.{◌≡◌, ℕ, zero, suc, ◌+◌, ◌-◌, ◌<◌, ◌≤◌, ◌^◌, Bool, true, false, List, [], ◌∷◌, refl, sym, ap, ◌∙◌, subst, arith}
+use Rattle.std.proofs.Common.{◌≡◌, ℕ, zero, suc, ◌+◌, ◌-◌, ◌<◌, ◌≤◌, ◌^◌, Bool, true, false, List, refl, sym, ap, ◌∙◌, subst, arith}
 use Rattle.std.specs.Prelude.{◌==◌, ◌&&◌, max, nat_lt, if◌then◌else◌, Option, Some, None}
-use Rattle.std.proofs.lemmas.Bool.{and_parts, and_from}
+use Rattle.std.proofs.lemmas.Bool.{and_from}
 use Rattle.std.proofs.lemmas.Bool.Decides.{nat_tests}
-use Rattle.text_grammar.specs.declared.item.Item.{Item}
 use Rattle.text_grammar.specs.declared.item.Symbol.TheVariants as s
 use Rattle.text_grammar.specs.declared.item.Token.{Token}
 use Rattle.text_grammar.specs.declared.item.Token.TheVariants as token
 use Rattle.text_grammar.specs.declared.fault.Kind.TheVariants.{TooDeep}
-use Rattle.text_grammar.specs.Part.{Part, kind_of, second, nothing}
+use Rattle.text_grammar.specs.Part.{Part, kind_of, nothing}
 use Rattle.text_grammar.specs.Terminals.{is_symbol, is_number, token_word, token_number, mark, name, number}
 use Rattle.tl_ast.specs.Printed.{tightness, left_asks, right_asks, minus_asks}
 use Rattle.tl_ast.specs.Limits.{always, room}
 use Rattle.tl_ast.specs.declared.tree.TestExpr.{TestExpr}
-use Rattle.tl_ast.specs.declared.tree.TestExpr.TheFolds.{fold-TestExpr, fold-roll-TestExpr, ind-TestExpr, map-TestExpr}
+use Rattle.tl_ast.specs.declared.tree.TestExpr.TheFolds.{fold-TestExpr, ind-TestExpr, map-TestExpr}
 use Rattle.tl_ast.specs.declared.tree.TestExpr.TheOpen as E
 use Rattle.tl_ast.specs.declared.tree.TestExpr.TheOpen.{TestExpr-F}
 use Rattle.tl_ast.specs.declared.tree.TestExpr.TheViews.{roll-TestExpr}
 use Rattle.tl_ast.specs.declared.tree.TestExpr.TheVariants as e
 use Rattle.tl_ast.specs.declared.tree.TestOp.{TestOp}
 use Rattle.tl_ast.specs.declared.tree.TestOp.TheVariants as op
-use Rattle.tl_ast.specs.ExprGrammar.{Counted, looseness, symbol_operator, if_loose, token_operator, is_operator, operator, literal, variable, plain, atom, minus, minuses, negated, behind_signs, signed, other_operand, operand, one_more, behind, level, comparison, compared, expr_behind, expr_in, parens, uncounted, expr, expr_limits, expr_from_number, other_expr}
+use Rattle.tl_ast.specs.ExprGrammar.{Counted, looseness, symbol_operator, if_loose, token_operator, is_operator, operator, literal, variable, plain, atom, negated, behind_signs, signed, other_operand, operand, one_more, behind, level, comparison, compared, expr_behind, expr_in, parens, uncounted, expr, expr_limits, expr_from_number, other_expr}
 use Rattle.tl_check.proofs.Unrolled.{fold-Num, fold-Var, fold-Neg, fold-Two}
 use Rattle.tl_round.proofs.Tokens.{is_word_text}
 use Rattle.tl_round.proofs.Sound.{SoundToken}

@@ -1,17 +1,14 @@
 -- An expression is spelled again as it is printed.
 use Rattle.std.proofs.Common.{◌≡◌, ◌≢◌, ℕ, zero, suc, ◌+◌, ◌-◌, ◌<◌, ◌≤◌, ◌^◌, Bool, true, false, List, [], ◌∷◌, ◌++◌, refl, sym, ap, ◌∙◌, append_assoc, append-nil, subst, inl, inr, arith}
-use Rattle.std.specs.Prelude.{◌==◌, max, nat_lt, Option, Some, None, codes}
+use Rattle.std.specs.Prelude.{◌==◌, max, nat_lt, Some, codes}
 use Rattle.std.specs.Fmt.{decimal}
 use Rattle.std.proofs.lemmas.Bool.{and_parts}
 use Rattle.std.proofs.lemmas.Bool.Decides.{nat_tests}
 use Rattle.text_grammar.specs.declared.item.Item.{Item}
-use Rattle.text_grammar.specs.declared.item.Symbol.TheVariants as s
-use Rattle.text_grammar.specs.declared.item.Token.TheVariants as token
-use Rattle.text_grammar.specs.Part.{Part, first, second, one_by, both, after, either, nothing}
-use Rattle.text_grammar.specs.Terminals.{mark, name, number}
-use Rattle.tl_ast.specs.Printed.{op_text, tightness, left_asks, right_asks, minus_asks, opening, closing, operand_text, expr_text}
+use Rattle.text_grammar.specs.Part.{Part, first, second, either}
+use Rattle.tl_ast.specs.Printed.{op_text, tightness, left_asks, right_asks, opening, closing, operand_text, expr_text}
 use Rattle.tl_ast.proofs.Rows.{num_text, var_text, neg_text, two_text}
-use Rattle.tl_ast.specs.Limits.{always, room}
+use Rattle.tl_ast.specs.Limits.{room}
 use Rattle.tl_ast.specs.declared.tree.TestExpr.{TestExpr}
 use Rattle.tl_ast.specs.declared.tree.TestExpr.TheFolds.{ind-TestExpr, map-TestExpr}
 use Rattle.tl_ast.specs.declared.tree.TestExpr.TheOpen as E
@@ -19,12 +16,12 @@ use Rattle.tl_ast.specs.declared.tree.TestExpr.TheOpen.{TestExpr-F}
 use Rattle.tl_ast.specs.declared.tree.TestExpr.TheViews.{roll-TestExpr}
 use Rattle.tl_ast.specs.declared.tree.TestExpr.TheVariants as e
 use Rattle.tl_ast.specs.declared.tree.TestOp.{TestOp}
-use Rattle.tl_ast.specs.ExprGrammar.{Counted, looseness, operator, literal, variable, plain, other_operand, operand, one_more, level, comparison, expr_in, parens, uncounted, expr, expr_limits}
+use Rattle.tl_ast.specs.ExprGrammar.{Counted, looseness, literal, variable, plain, other_operand, operand, one_more, level, comparison, expr_in, parens, uncounted, expr, expr_limits}
 use Rattle.tl_check.specs.Bounds.{operators_level, operators}
 use Rattle.tl_check.proofs.Unrolled.{fold-Num, fold-Var, fold-Neg, fold-Two}
 use Rattle.tl_round.proofs.Chunks.{Before, Line, Says, says_as, line_both, line_after, line_spaced, line_more, line_text, line_end}
-use Rattle.tl_round.proofs.Tokens.{is_word_text, word_line, number_line_as, number_line, name_line, operator_line, minus_line, open_paren_line, close_paren_line}
-use Rattle.tl_round.proofs.Depth.{depth, is_sound, sound_level, Fine, depth_neg, depth_two, suc_if, six, not_below, fine_less}
+use Rattle.tl_round.proofs.Tokens.{is_word_text, number_line, name_line, operator_line, minus_line, open_paren_line, close_paren_line}
+use Rattle.tl_round.proofs.Depth.{depth, is_sound, sound_level, Fine, depth_neg, depth_two, suc_if, six, not_below}
 use Rattle.tl_round.proofs.ExprSpelling.{room_spelled, operand_level, level_operand, level_wider, level_whole, level_grown, whole_compared, neg_spelled}
 
 pub line_as : {A B : Type 0} {P : Part A} (Q : Part B) {n : Bool} {t : List ℕ} {a : A} (b : B) → ((ts : List Item) → P.spells ts a → Q.spells ts b) → Line P n t a → Line Q n t b
@@ -176,7 +173,7 @@ module _ (d count : ℕ) (o : TestOp) (a b : TestExpr) (p : Said a) (q : Said b)
   bare_comparison is =
       let all = six o in
       let operation : Line (one_more (Some 64) comparison (level_in d comparison) (end_count count a)) true (op_text o ++ (32 ∷ operand_text b (right_asks o))) (end_count count (e.Two o a b)) =
-          subst (λ (n : ℕ). Line (one_more (Some 64) n (level_in d n) (end_count count a)) true (op_text o ++ (32 ∷ operand_text b (right_asks o))) (end_count count (e.Two o a b))) is operation_line in
+      subst (λ (n : ℕ). Line (one_more (Some 64) n (level_in d n) (end_count count a)) true (op_text o ++ (32 ∷ operand_text b (right_asks o))) (end_count count (e.Two o a b))) is operation_line in
       line_as (whole_in d count) (end_count count (e.Two o a b)) (λ ts sp. whole_compared (Some 64) (within d) count ts (end_count count (e.Two o a b)) sp)
       (line_after (one_more (Some 64) comparison (level_in d comparison)) (left_line comparison (omega arith) (omega (arith, all, is))) (line_spaced operation) (λ rest k. refl))
 

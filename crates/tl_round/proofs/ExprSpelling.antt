@@ -1,16 +1,16 @@
 -- How what spells one part of the grammar of expressions spells another.
 use Rattle.std.proofs.Common.{◌≡◌, ℕ, zero, suc, ◌+◌, ◌-◌, ◌<◌, ◌≤◌, Bool, true, false, List, [], ◌∷◌, ◌++◌, refl, sym, ap, ◌∙◌, append_assoc, append-nil, subst, inl, inr, arith}
-use Rattle.std.specs.Prelude.{nat_le, Option, Some, None}
+use Rattle.std.specs.Prelude.{nat_le, Option, Some}
 use Rattle.std.proofs.lemmas.Bool.Decides.{nat_tests}
 use Rattle.text_grammar.specs.declared.item.Item.{Item}
 use Rattle.text_grammar.specs.declared.item.Symbol.TheVariants as s
 use Rattle.text_grammar.specs.declared.fault.Kind.TheVariants.{TooDeep}
 use Rattle.text_grammar.specs.Part.{Part, second, both, after, either, pick, nothing, stop}
-use Rattle.text_grammar.specs.Terminals.{is_symbol, is_number, mark}
+use Rattle.text_grammar.specs.Terminals.{mark}
 use Rattle.tl_ast.specs.Limits.{Grows, grow, always, room}
 use Rattle.tl_ast.specs.declared.tree.TestExpr.{TestExpr}
 use Rattle.tl_ast.specs.declared.tree.TestExpr.TheVariants as e
-use Rattle.tl_ast.specs.ExprGrammar.{Counted, literal, plain, atom, minus, minuses, negated, behind_signs, signed, other_operand, operand, is_operator, one_more, behind, level, comparison, compared, expr_behind, expr_in, parens}
+use Rattle.tl_ast.specs.ExprGrammar.{Counted, literal, atom, minus, minuses, negated, behind_signs, signed, other_operand, operand, one_more, behind, level, comparison, compared, expr_behind, expr_in}
 
 -- room for one more
 pub room_spelled : (count : ℕ) → count < 64 → (room (Some 64) count).spells [] (tt {0})
@@ -75,9 +75,14 @@ module _ (most : Option ℕ) (inside : ℕ → Part Counted) where
       let front = h.4 in
       let tail = front.5 in
       let whole : ts ≡ front.0 ++ (front.1 ++ h.1) = h.3 ∙ ap (λ (z : List Item). z ++ h.1) front.3 ∙ append_assoc front.0 front.1 h.1 in
-      let rest : front.1 ++ h.1 ≡ tail.0 ++ (tail.1 ++ h.1) = ap (λ (z : List Item). z ++ h.1) tail.3 ∙ append_assoc tail.0 tail.1 h.1 in
-      (front.0, front.1 ++ h.1, front.2, whole, front.4,
-      (tail.0, tail.1 ++ h.1, tail.2, rest, tail.4, (tail.5.0 ++ w ∷ [], grows_more always _ tail.5.0 tail.2 h.2 w tail.1 h.1 tail.5.1 refl h.5)))
+      let rest : front.1 ++ h.1 ≡ tail.0 ++ (tail.1 ++ h.1) = ap (λ (z : List Item). z ++ h.1) tail.3 ∙ append_assoc tail.0 tail.1 h.1 in (
+        front.0,
+        front.1 ++ h.1,
+        front.2,
+        whole,
+        front.4,
+        (tail.0, tail.1 ++ h.1, tail.2, rest, tail.4, (tail.5.0 ++ w ∷ [], grows_more always _ tail.5.0 tail.2 h.2 w tail.1 h.1 tail.5.1 refl h.5)),
+      )
 
   pub whole_compared : (count : ℕ) (ts : List Item) (w : Counted)
       → (after (level most inside comparison count) (one_more most comparison (level most inside comparison))).spells ts w → (expr_in most inside count).spells ts w
@@ -107,9 +112,14 @@ module _ (inside : ℕ → Part Counted) where
   unfolding signed after minuses grow behind_signs both nothing
   sign_of_atom count c x xs ys less m h =
       let one : suc count - count ≡ 1 = omega arith in
-      let value : (e.Neg x, c) ≡ (negated (suc count - count) x, c) = rw one refl in
-      (xs, ys, suc count, refl, (xs, [], suc count, sym (append-nil xs), minus_spelled count xs less m, ([], (refl, refl))),
-      (ys, [], (x, c), tt, sym (append-nil ys), h, (refl, refl), value))
+      let value : (e.Neg x, c) ≡ (negated (suc count - count) x, c) = rw one refl in (
+        xs,
+        ys,
+        suc count,
+        refl,
+        (xs, [], suc count, sym (append-nil xs), minus_spelled count xs less m, ([], (refl, refl))),
+        (ys, [], (x, c), tt, sym (append-nil ys), h, (refl, refl), value),
+      )
 
   sign_of_signed : (count c : ℕ) (x : TestExpr) (xs ys : List Item) → count < 64 → (mark s.Minus).spells xs tt → (signed (Some 64) inside (suc count)).spells ys (x, c)
       → (signed (Some 64) inside count).spells (xs ++ ys) (e.Neg x, c)
@@ -122,10 +132,14 @@ module _ (inside : ℕ → Part Counted) where
       let next = minus_count (suc count) first signs.0 signs.4 in
       let more = minuses_more signs.5.0 first now signs.1 signs.5.1 in
       let one : now - count ≡ suc (now - suc count) = omega (arith, next, more) in
-      let value : (e.Neg x, c) ≡ (negated (now - count) last.2.0, last.2.1) = rw one (ap (λ (z : Counted). (e.Neg z.0, z.1)) last.7) in
-      (xs ++ h.0, h.1, now, ap (λ (z : List Item). xs ++ z) h.3 ∙ sym (append_assoc xs h.0 h.1),
-      (xs, h.0, suc count, refl, minus_spelled count xs less m, (first ∷ signs.5.0, (signs.0, signs.1, signs.3, refl, signs.4, signs.5.1))),
-      (last.0, last.1, last.2, last.3, last.4, last.5, last.6, value))
+      let value : (e.Neg x, c) ≡ (negated (now - count) last.2.0, last.2.1) = rw one (ap (λ (z : Counted). (e.Neg z.0, z.1)) last.7) in (
+        xs ++ h.0,
+        h.1,
+        now,
+        ap (λ (z : List Item). xs ++ z) h.3 ∙ sym (append_assoc xs h.0 h.1),
+        (xs, h.0, suc count, refl, minus_spelled count xs less m, (first ∷ signs.5.0, (signs.0, signs.1, signs.3, refl, signs.4, signs.5.1))),
+        (last.0, last.1, last.2, last.3, last.4, last.5, last.6, value),
+      )
 
   -- a `-` before an operand
   pub neg_spelled : (count c : ℕ) (x : TestExpr) (ts : List Item) → count < 64 → (both second (mark s.Minus) (operand (Some 64) inside (suc count))).spells ts (x, c)

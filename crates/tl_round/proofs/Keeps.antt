@@ -1,5 +1,5 @@
 -- Parts whose values are as they should be where the items can be printed; once for each way to make a part.
-use Rattle.std.proofs.Common.{◌≡◌, ℕ, Bool, true, false, List, [], ◌∷◌, ◌++◌, refl, sym, subst, inl, inr}
+use Rattle.std.proofs.Common.{◌≡◌, Bool, true, List, [], ◌∷◌, ◌++◌, sym, subst, inl, inr}
 use Rattle.std.specs.Prelude.{Option, Some}
 use Rattle.text_grammar.specs.declared.item.Item.{Item}
 use Rattle.text_grammar.specs.declared.fault.Kind.{Kind}

@@ -1,27 +1,27 @@
 -- Ports with lists of values are spelled again as they are printed.
-use Rattle.std.proofs.Common.{◌≡◌, ℕ, zero, suc, ◌+◌, ◌<◌, ◌≤◌, ◌^◌, Bool, true, false, List, [], ◌∷◌, ◌++◌, map, refl, sym, ap, ◌∙◌, append_assoc, append-nil, subst, inl, inr, arith}
+use Rattle.std.proofs.Common.{◌≡◌, ℕ, ◌+◌, ◌<◌, ◌^◌, Bool, true, false, List, [], ◌∷◌, ◌++◌, map, refl, sym, ap, ◌∙◌, append_assoc, append-nil, subst, inl, inr}
 use Rattle.std.specs.Prelude.{◌==◌, Option, Some, None, codes}
 use Rattle.std.specs.Fmt.{decimal}
 use Rattle.tb_base.specs.declared.place.Place.{Place}
 use Rattle.tb_base.specs.Joined.{led, joined}
 use Rattle.text_grammar.specs.declared.item.Item.{Item}
 use Rattle.text_grammar.specs.declared.item.Symbol.TheVariants as s
-use Rattle.text_grammar.specs.Part.{Part, first, second, both, after, either, nothing, many}
+use Rattle.text_grammar.specs.Part.{Part, first, second, both, after, either, nothing}
 use Rattle.text_grammar.specs.Terminals.{is_symbol, is_number, mark, name, number}
 use Rattle.tl_ast.specs.Printed as printed
 use Rattle.tl_ast.specs.Printed.{expr_text}
-use Rattle.tl_ast.specs.Limits.{Grows, grow}
+use Rattle.tl_ast.specs.Limits.{grow}
 use Rattle.tl_ast.specs.declared.tree.TestExpr.{TestExpr}
 use Rattle.tl_ast.specs.declared.tree.TestExpr.TheVariants as e
 use Rattle.tl_ast.specs.declared.listed.Listed.{Listed}
-use Rattle.tl_ast.specs.ExprGrammar.{expr_limits, Counted, counted, is_some, behind, compared, literal, other_operand, operand, expr_in, expr_behind, parens, uncounted, expr, expr_from_number, other_expr}
-use Rattle.tl_ast.specs.TestGrammar.{field, index, is_suffix, suffix, longer, port, further, furthers, alone_if, from_number, from_other, no_values, numbered_values, other_values, values, bracket, fields, listed_from, with_index, may_be_index, listed_further, listed_behind, listed}
+use Rattle.tl_ast.specs.ExprGrammar.{expr_limits, Counted, is_some, compared, literal, operand, expr_in, expr_behind, parens, uncounted, expr_from_number, other_expr}
+use Rattle.tl_ast.specs.TestGrammar.{field, is_suffix, longer, further, furthers, alone_if, from_number, from_other, no_values, numbered_values, other_values, values, bracket, fields, listed_from, with_index, may_be_index, listed_further, listed_behind, listed}
 use Rattle.tl_check.specs.Bounds.{operators}
-use Rattle.tl_written.proofs.ExprsWritten.{gives_expr, gives_from_number, gives_other_expr}
-use Rattle.tl_round.proofs.Chunks.{Before, Line, Says, says_join, after_join, says_cons, says_none, says_more, says_on, says_as, says_text, says_nothing, behind_join, join_as, space_chunk, nothing_chunk, line_both, line_after, line_spaced, line_more, line_text, line_end}
-use Rattle.tl_round.proofs.Tokens.{is_word_text, name_line, number_line, dot_line, comma_line, open_bracket_line, close_bracket_line}
+use Rattle.tl_written.proofs.ExprsWritten.{gives_from_number, gives_other_expr}
+use Rattle.tl_round.proofs.Chunks.{Before, Line, Says, says_join, after_join, says_cons, says_none, says_on, says_as, says_text, says_nothing, behind_join, join_as, space_chunk, nothing_chunk, line_both, line_after, line_spaced, line_more, line_end}
+use Rattle.tl_round.proofs.Tokens.{is_word_text, name_line, number_line, comma_line, open_bracket_line, close_bracket_line}
 use Rattle.tl_round.proofs.Keeps.{Keeps, Any, any, Each, keeps_to, keeps_both, keeps_after, keeps_either, keeps_nothing, keeps_many, keeps_grow, keeps_second, keeps_first}
-use Rattle.tl_round.proofs.Depth.{Fine, keeps_name, keeps_number, keeps_expr, keeps_from_number, keeps_other_expr}
+use Rattle.tl_round.proofs.Depth.{keeps_name, keeps_number, keeps_from_number, keeps_other_expr}
 use Rattle.tl_round.proofs.ExprSpelling.{grows_more, behind_none}
 use Rattle.tl_round.proofs.ExprLines.{line_as, whole_line}
 use Rattle.tl_round.proofs.Ports.{Good, good_line, keeps_good, Suffixed, keeps_field, all_of, longer_is, suffixes_stop, suffixes_line}
@@ -43,7 +43,8 @@ alone_is false n m more h = absurd cc
 
 kept_number : (p : List ℕ) (n : ℕ) (v : Counted) (more : List TestExpr) → n < 2 ^ 128 → Good v.0 → Each Good more → Kept p (from_number p n v more)
 kept_number p n v more small h k = record {
-  name = refl; values = (h, k);
+  name = refl;
+  values = (h, k);
   alone = λ m e. subst (λ (z : ℕ). z < 2 ^ 128) (alone_is (v.1 == 0) n m more e) small;
 }
 
@@ -165,23 +166,37 @@ values_spelled p ts v xs sp =
     let whole = list.5 in
     let same : (list.2, list.3) ≡ (v, xs) = sym (sp.7 ∙ list.7) in
     subst (λ (z : Counted × List TestExpr). ValuesSpelled p ts z.0 z.1) same (elim whole.4 [
-        inl number ↦ (
+      | inl number ↦ (
           let start : whole.0 ≡ number.0 = number.4 ∙ ap (λ (z : List Item). number.0 ++ z) number.6.0 ∙ append-nil number.0 in
           let front : list.0 ≡ number.0 ++ whole.1 = whole.3 ∙ ap (λ (z : List Item). z ++ whole.1) start in
           let all : ts ≡ number.0 ++ ((whole.1 ++ list.1) ++ sp.1) =
-              sp.4 ∙ ap (λ (z : List Item). z ++ sp.1) (list.4 ∙ ap (λ (z : List Item). z ++ list.1) front ∙ append_assoc number.0 whole.1 list.1) ∙ append_assoc number.0 (whole.1 ++ list.1) sp.1 in
+          sp.4 ∙ ap (λ (z : List Item). z ++ sp.1) (list.4 ∙ ap (λ (z : List Item). z ++ list.1) front ∙ append_assoc number.0 whole.1 list.1) ∙ append_assoc number.0 (whole.1 ++ list.1) sp.1 in
           let behind = subst (λ (z : Counted). (expr_behind (Some 64) inner z).spells whole.1 list.2) number.7 whole.5 in
           record {
             alone = alone_if (list.2.1 == 0) number.2 list.3;
-            spelled = inr (inl (number.0, (whole.1 ++ list.1) ++ sp.1, number.2, all, number.5,
-                (whole.1 ++ list.1, sp.1, from_number p number.2 list.2 list.3, tt, refl, (whole.1, list.1, list.2, list.3, refl, behind, list.6, refl), sp.6, refl)));
+            spelled = inr (inl (
+              number.0,
+              (whole.1 ++ list.1) ++ sp.1,
+              number.2,
+              all,
+              number.5,
+              (whole.1 ++ list.1, sp.1, from_number p number.2 list.2 list.3, tt, refl, (whole.1, list.1, list.2, list.3, refl, behind, list.6, refl), sp.6, refl),
+            ));
           })
       | inr other ↦ record {
-          alone = None;
-          spelled = inr (inr (sp.0, sp.1, from_other p (list.2.0 ∷ list.3), tt, sp.4,
-              (list.0, list.1, list.2.0, list.3, list.4, (list.0, [], list.2, tt, sym (append-nil list.0), (whole.0, whole.1, whole.2, whole.3, other, whole.5), (refl, refl), refl), list.6, refl), sp.6, refl));
-        }
-      ])
+        alone = None;
+        spelled = inr (inr (
+          sp.0,
+          sp.1,
+          from_other p (list.2.0 ∷ list.3),
+          tt,
+          sp.4,
+          (list.0, list.1, list.2.0, list.3, list.4, (list.0, [], list.2, tt, sym (append-nil list.0), (whole.0, whole.1, whole.2, whole.3, other, whole.5), (refl, refl), refl), list.6, refl),
+          sp.6,
+          refl,
+        ));
+      }
+    ])
 
 -- ---- brackets
 

@@ -1,29 +1,22 @@
 -- Ports, and ports with lists, are spelled again as they are printed.
-use Rattle.std.proofs.Common.{◌≡◌, ℕ, zero, suc, ◌+◌, ◌<◌, ◌≤◌, ◌^◌, Bool, true, false, List, [], ◌∷◌, ◌++◌, map, refl, sym, ap, ◌∙◌, append_assoc, append-nil, subst, inl, inr, arith}
-use Rattle.std.specs.Prelude.{◌==◌, Option, Some, None, codes}
+use Rattle.std.proofs.Common.{◌≡◌, ℕ, ◌<◌, ◌≤◌, ◌^◌, Bool, true, List, [], ◌∷◌, ◌++◌, refl, sym, ◌∙◌, append_assoc, append-nil, subst, inl, inr}
+use Rattle.std.specs.Prelude.{codes}
 use Rattle.std.specs.Fmt.{decimal}
-use Rattle.tb_base.specs.declared.place.Place.{Place}
-use Rattle.tb_base.specs.Joined.{led, joined}
 use Rattle.text_grammar.specs.declared.item.Item.{Item}
 use Rattle.text_grammar.specs.declared.item.Symbol.TheVariants as s
-use Rattle.text_grammar.specs.Part.{Part, first, second, both, after, either, nothing, many}
-use Rattle.text_grammar.specs.Terminals.{is_symbol, is_number, mark, name, number}
-use Rattle.tl_ast.specs.Printed as printed
+use Rattle.text_grammar.specs.Part.{Part, first, either, many}
+use Rattle.text_grammar.specs.Terminals.{is_symbol, mark, name, number}
 use Rattle.tl_ast.specs.Printed.{expr_text}
-use Rattle.tl_ast.specs.Limits.{Grows, grow}
 use Rattle.tl_ast.specs.declared.tree.TestExpr.{TestExpr}
-use Rattle.tl_ast.specs.declared.tree.TestExpr.TheVariants as e
-use Rattle.tl_ast.specs.declared.listed.Listed.{Listed}
-use Rattle.tl_ast.specs.ExprGrammar.{expr_limits, Counted, counted, literal, other_operand, operand, expr_in, expr_behind, parens, uncounted, expr, expr_from_number, other_expr}
-use Rattle.tl_ast.specs.TestGrammar.{field, index, is_suffix, suffix, longer, port, further, furthers, alone_if, from_number, from_other, no_values, numbered_values, other_values, values, bracket, fields, listed_from, with_index, may_be_index, listed_further, listed_behind, listed}
+use Rattle.tl_ast.specs.ExprGrammar.{expr_limits, expr}
+use Rattle.tl_ast.specs.TestGrammar.{field, index, is_suffix, suffix, longer, port}
 use Rattle.tl_check.specs.Bounds.{operators}
-use Rattle.tl_written.proofs.ExprsWritten.{gives_expr, gives_from_number, gives_other_expr}
-use Rattle.tl_round.proofs.Chunks.{Before, Line, Says, says_join, after_join, says_cons, says_none, says_more, says_on, says_as, says_text, says_behind, space_chunk, line_both, line_after, line_spaced, line_more, line_text, line_end}
-use Rattle.tl_round.proofs.Tokens.{is_word_text, name_line, number_line, dot_line, comma_line, open_bracket_line, close_bracket_line}
-use Rattle.tl_round.proofs.Keeps.{Keeps, Any, any, Each, keeps_to, keeps_both, keeps_after, keeps_either, keeps_nothing, keeps_many, keeps_grow, keeps_second, keeps_first}
-use Rattle.tl_round.proofs.Depth.{Fine, keeps_name, keeps_number, keeps_expr, keeps_from_number, keeps_other_expr}
-use Rattle.tl_round.proofs.ExprSpelling.{grows_more}
-use Rattle.tl_round.proofs.ExprLines.{line_as, whole_line, expr_line}
+use Rattle.tl_written.proofs.ExprsWritten.{gives_expr}
+use Rattle.tl_round.proofs.Chunks.{Before, Line, says_cons, says_none, says_on, line_both, line_more, line_text}
+use Rattle.tl_round.proofs.Tokens.{is_word_text, name_line, number_line, dot_line, open_bracket_line, close_bracket_line}
+use Rattle.tl_round.proofs.Keeps.{Keeps, Any, any, Each, keeps_to, keeps_both, keeps_either, keeps_many, keeps_first}
+use Rattle.tl_round.proofs.Depth.{Fine, keeps_name, keeps_number, keeps_expr}
+use Rattle.tl_round.proofs.ExprLines.{line_as, expr_line}
 
 -- ---- expressions
 

@@ -1,11 +1,10 @@
 -- Statements of one line are spelled again as they are printed.
-use Rattle.std.proofs.Common.{◌≡◌, ℕ, ◌+◌, ◌<◌, ◌^◌, Bool, true, false, List, [], ◌∷◌, ◌++◌, map, refl, sym, ap, ◌∙◌, append_assoc, append-nil, subst, inl, inr}
+use Rattle.std.proofs.Common.{◌≡◌, ℕ, ◌+◌, ◌<◌, ◌^◌, true, false, List, [], ◌∷◌, ◌++◌, map, refl, sym, ap, ◌∙◌, append_assoc, append-nil, subst}
 use Rattle.std.specs.Prelude.{Option, Some, None, codes}
 use Rattle.std.specs.Fmt.{decimal}
 use Rattle.tb_base.specs.declared.place.Place.{Place}
-use Rattle.tb_base.specs.Joined.{led}
 use Rattle.text_grammar.specs.declared.item.Symbol.TheVariants as s
-use Rattle.text_grammar.specs.Part.{Part, first, second, both, either, nothing, optional}
+use Rattle.text_grammar.specs.Part.{first, second, both, nothing}
 use Rattle.text_grammar.specs.Terminals.{is_word, keyword, mark, name, number}
 use Rattle.tl_ast.specs.Printed as printed
 use Rattle.tl_ast.specs.Printed.{expr_text, into_text, values_text, kind_name, stmt_text}
@@ -24,10 +23,10 @@ use Rattle.tl_check.proofs.Unrolled.{fold-Poke, fold-Peek, fold-Expect, fold-Ste
 use Rattle.tl_round.specs.Relined.{Placed, placed_level, stmt_placed}
 use Rattle.tl_round.proofs.Chunks.{Before, Blank, Line, Says, says_both, says_then, says_on, says_text, says_left, says_right, says_nothing, chunk_on, feed_chunk, line_both, line_spaced, line_more, line_text}
 use Rattle.tl_round.proofs.Tokens.{is_word_text, name_line, keyword_line, number_line, equal_line, equal_equal_line, semicolon_line}
-use Rattle.tl_round.proofs.Keeps.{Keeps, Any, any, Each, keeps_to, keeps_both, keeps_either, keeps_nothing, keeps_second, keeps_first}
+use Rattle.tl_round.proofs.Keeps.{Keeps, Any, any, keeps_to, keeps_both, keeps_either, keeps_nothing, keeps_second, keeps_first}
 use Rattle.tl_round.proofs.Depth.{keeps_name, keeps_number}
 use Rattle.tl_round.proofs.Ports.{Good, good_line, keeps_good, keeps_port}
-use Rattle.tl_round.proofs.Lists.{SaysListed, Grown, keeps_listed}
+use Rattle.tl_round.proofs.Lists.{Grown, keeps_listed}
 
 -- a statement that is printed behind its first word, which is spelled again there, with the lines of that place
 pub record RowSaid (block inner : Body) (word : StmtWord) (x : TestStmt) : Type 0 where
@@ -153,7 +152,7 @@ module _ (block inner : Body) where
   value_said l k p v h g text is =
       let t : List ℕ = p ++ values_text k (expr_text v ∷ []) in
       let same : 32 ∷ (p ++ ((32 ∷ expr_text v) ++ codes ";")) ≡ 32 ∷ (t ++ codes ";") =
-          behind_target p (32 ∷ expr_text v) ∙ ap (λ (z : List ℕ). 32 ∷ ((p ++ z) ++ codes ";")) (ap (λ (z : List ℕ). 32 ∷ z) (sym (append-nil (expr_text v))) ∙ sym text) in
+      behind_target p (32 ∷ expr_text v) ∙ ap (λ (z : List ℕ). 32 ∷ ((p ++ z) ++ codes ";")) (ap (λ (z : List ℕ). 32 ∷ z) (sym (append-nil (expr_text v))) ∙ sym text) in
       one_line_said block inner (w.Driver k) _ t (λ line. stmt.Driver line k p (v ∷ [])) (λ i. driver_text l k p (v ∷ []) i) (placed_driver l k p (v ∷ []))
       (λ line. subst (λ q. Line q false (32 ∷ (t ++ codes ";")) (stmt.Driver line k p (v ∷ []))) (sym (is line))
       (line_text same (line_spaced (line_both (λ a b. stmt.Driver line k a (b ∷ [])) h (line_spaced (ended_line v g)) (λ rest z. refl)))))

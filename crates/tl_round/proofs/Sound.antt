@@ -1,12 +1,12 @@
 -- The items of a text can be printed: its words are words of the language, its numbers are below 2^128.
-use Rattle.std.proofs.Common.{◌≡◌, ℕ, zero, suc, ◌+◌, ◌-◌, ◌<◌, ◌^◌, Bool, true, false, cond, List, [], ◌∷◌, ◌++◌, take, get_or, refl, ap, subst, arith}
+use Rattle.std.proofs.Common.{◌≡◌, ℕ, zero, suc, ◌+◌, ◌-◌, ◌<◌, ◌^◌, Bool, true, false, cond, List, [], ◌∷◌, ◌++◌, take, refl, arith}
 use Rattle.std.specs.Prelude.{nat_lt, if◌then◌else◌, Option, Some, None}
 use Rattle.std.specs.List.{prefix_len, list_all}
 use Rattle.std.proofs.lemmas.Bool.{and_from}
 use Rattle.std.proofs.lemmas.Bool.Decides.{nat_tests}
 use Rattle.std.specs.Char.{is_ascii_digit}
 use Rattle.tb_base.specs.declared.place.Place.{Place}
-use Rattle.text_grammar.specs.Lex.{begins_word, is_in, run, word, number_token, text_start}
+use Rattle.text_grammar.specs.Lex.{begins_word, is_in, run, number_token, text_start}
 use Rattle.text_grammar.specs.declared.lex.Class.TheVariants as run_of
 use Rattle.text_grammar.specs.declared.lex.Piece.{Piece}
 use Rattle.text_grammar.specs.declared.item.Item.{Item}

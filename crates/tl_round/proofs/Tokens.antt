@@ -1,6 +1,6 @@
 -- The tokens of a printed text: words, decimal numbers and symbols, before a byte that no token goes on with.
-use Rattle.std.proofs.Common.{◌≡◌, ℕ, suc, ◌+◌, ◌-◌, ◌<◌, ◌≤◌, ◌^◌, Bool, true, false, ◌==◌, List, [], ◌∷◌, ◌++◌, length, take, drop, get_or, refl, sym, ap, ◌∙◌, subst, arith, length-append}
-use Rattle.std.specs.Prelude.{◌&&◌, ◌||◌, not, nat_lt, Some, codes}
+use Rattle.std.proofs.Common.{◌≡◌, ℕ, suc, ◌+◌, ◌<◌, ◌≤◌, ◌^◌, Bool, true, false, ◌==◌, List, [], ◌∷◌, ◌++◌, length, take, get_or, refl, sym, ap, ◌∙◌, subst, arith, length-append}
+use Rattle.std.specs.Prelude.{◌&&◌, not, nat_lt, Some, codes}
 use Rattle.std.specs.Char.{is_ascii_digit, digit_value}
 use Rattle.std.specs.Fmt.{decimal}
 use Rattle.std.specs.List.{prefix_len, list_all}
@@ -9,7 +9,6 @@ use Rattle.std.specs.Str.Parse.{AllDigits}
 use Rattle.std.proofs.lemmas.Fmt.{decimal_is_IsNumeral_wide}
 use Rattle.std.proofs.lemmas.Bool.{and_parts}
 use Rattle.std.proofs.lemmas.Bool.Decides.{nat_tests}
-use Rattle.std.proofs.lemmas.Slice.Eq.{bytes_eq-Decides}
 use Rattle.std.proofs.Math.Seq.{take-append_seam, drop-append_seam}
 use Rattle.tb_base.specs.declared.place.Place.{Place}
 use Rattle.tb_base.specs.Numeral.{has_base, base_of, numeral_value}
@@ -17,12 +16,11 @@ use Rattle.tb_base.proofs.Digits.{read_back}
 use Rattle.text_grammar.specs.Lex.{begins_word, is_in, number_token}
 use Rattle.text_grammar.specs.declared.lex.Class.TheVariants as run_of
 use Rattle.text_grammar.specs.declared.lex.Piece.{Piece}
-use Rattle.text_grammar.specs.declared.item.Item.{Item}
 use Rattle.text_grammar.specs.declared.item.Symbol.{Symbol}
 use Rattle.text_grammar.specs.declared.item.Symbol.TheVariants as s
 use Rattle.text_grammar.specs.declared.item.Token.{Token}
 use Rattle.text_grammar.specs.declared.item.Token.TheVariants as token
-use Rattle.text_grammar.specs.Part.{Part, one_by, SpellsMany}
+use Rattle.text_grammar.specs.Part.{Part, one_by}
 use Rattle.text_grammar.specs.Terminals.{code, keyword, mark, name, number}
 use Rattle.tl_lex.specs.Pieces.{piece, number_len}
 use Rattle.tl_lex.specs.Lex.{place_after, place_behind, placed, items_from}
@@ -31,7 +29,7 @@ use Rattle.tl_ast.specs.Printed.{op_text}
 use Rattle.tl_ast.specs.ExprGrammar.{looseness, operator}
 use Rattle.tl_ast.specs.declared.tree.TestOp.{TestOp}
 use Rattle.tl_ast.specs.declared.tree.TestOp.TheVariants as op
-use Rattle.tl_round.proofs.Chunks.{stops, Before, Chunk, Says, Line}
+use Rattle.tl_round.proofs.Chunks.{stops, Before, Says, Line}
 
 -- a word of the language
 abbrev pub is_word_text : List ℕ → Bool
@@ -99,8 +97,12 @@ record Begins (b : ℕ) : Type 0 where
 
 word_begins : (b : ℕ) → begins_word b ≡ true → Begins b
 word_begins b h = record {
-  inside = grind (arith, nat_tests); no_space = grind (arith, nat_tests); no_tab = grind (arith, nat_tests);
-  no_feed_here = grind (arith, nat_tests); no_return = grind (arith, nat_tests); no_slash = grind (arith, nat_tests);
+  inside = grind (arith, nat_tests);
+  no_space = grind (arith, nat_tests);
+  no_tab = grind (arith, nat_tests);
+  no_feed_here = grind (arith, nat_tests);
+  no_return = grind (arith, nat_tests);
+  no_slash = grind (arith, nat_tests);
 }
 
 word_piece : (w rest : List ℕ) → is_word_text w ≡ true → Before true rest → piece (w ++ rest) ≡ record { token = Some (token.Word w); len = length w }
@@ -169,9 +171,15 @@ record Digit (b : ℕ) : Type 0 where
 
 digit_begins : (b : ℕ) → digit_value b < 10 → Digit b
 digit_begins b h = record {
-  no_space = grind (arith, nat_tests); no_tab = grind (arith, nat_tests); no_feed_here = grind (arith, nat_tests);
-  no_return = grind (arith, nat_tests); no_slash = grind (arith, nat_tests); no_word = grind (arith, nat_tests);
-  is = grind (arith, nat_tests); below = grind (arith, nat_tests); no_letter = grind (arith, nat_tests);
+  no_space = grind (arith, nat_tests);
+  no_tab = grind (arith, nat_tests);
+  no_feed_here = grind (arith, nat_tests);
+  no_return = grind (arith, nat_tests);
+  no_slash = grind (arith, nat_tests);
+  no_word = grind (arith, nat_tests);
+  is = grind (arith, nat_tests);
+  below = grind (arith, nat_tests);
+  no_letter = grind (arith, nat_tests);
 }
 
 stops_no_digit : (b : ℕ) → stops b ≡ true → nat_lt (digit_value b) 10 ≡ false

@@ -1,43 +1,36 @@
 -- Blocks and whole tests are spelled again as they are printed.
-use Rattle.std.proofs.Common.{◌≡◌, ℕ, zero, suc, ◌+◌, Bool, true, false, List, [], ◌∷◌, ◌++◌, map, refl, sym, ap, ◌∙◌, append_assoc, append-nil, subst, inl, inr, arith}
+use Rattle.std.proofs.Common.{◌≡◌, ℕ, zero, suc, ◌+◌, Bool, true, false, List, [], ◌∷◌, ◌++◌, refl, sym, ap, ◌∙◌, append-nil, subst}
 use Rattle.std.specs.Prelude.{Option, Some, None, codes}
-use Rattle.std.specs.List.{flat_map}
 use Rattle.tb_base.specs.declared.path.Region.{Region}
-use Rattle.tb_base.specs.declared.path.Region.TheVariants.{Main, Monitor}
 use Rattle.tb_base.specs.declared.place.Place.{Place}
 use Rattle.text_grammar.specs.declared.item.Item.{Item}
 use Rattle.text_grammar.specs.declared.item.Symbol.TheVariants as s
 use Rattle.text_grammar.specs.declared.item.Token.TheVariants as token
 use Rattle.text_grammar.specs.declared.fault.Kind.TheVariants.{TooDeep}
-use Rattle.text_grammar.specs.Part.{Part, kind_of, first, second, one_by, both, after, either, nothing, optional, stop, many}
-use Rattle.text_grammar.specs.Terminals.{is_word, is_name, keyword, mark, name}
+use Rattle.text_grammar.specs.Part.{Part, first, second, one_by, both, after, nothing, stop}
+use Rattle.text_grammar.specs.Terminals.{is_name, keyword, mark, name}
 use Rattle.tl_lex.specs.Lex.{items_from, items_of}
 use Rattle.text_grammar.specs.Lex.{text_start}
-use Rattle.tl_ast.specs.Printed as printed
-use Rattle.tl_ast.specs.Printed.{expr_text, region_text, fork_words, block_text, deeper, stmt_text, printed_test}
+use Rattle.tl_ast.specs.Printed.{deeper, stmt_text, printed_test}
 use Rattle.tl_ast.specs.Tests.{spells_test}
-use Rattle.tl_ast.proofs.Rows.{branches_text, while_text, repeat_text, fork_text}
-use Rattle.tl_ast.specs.declared.tree.TestExpr.{TestExpr}
 use Rattle.tl_ast.specs.declared.tree.TestStmt.{TestStmt}
 use Rattle.tl_ast.specs.declared.tree.TestStmt.TheVariants as stmt
 use Rattle.tl_ast.specs.declared.tree.TestText.{TestText}
 use Rattle.tl_ast.specs.declared.tree.DriverKind.TheVariants as kind
 use Rattle.tl_ast.specs.declared.words.StmtWord.{StmtWord}
 use Rattle.tl_ast.specs.declared.words.StmtWord.TheVariants as w
-use Rattle.tl_ast.specs.ExprGrammar.{expr_limits, expr}
-use Rattle.tl_ast.specs.TestGrammar.{word_name, stmt_word, token_stmt_word, begins_stmt, is_forking, some_forking, too_many_forks, with_line, first_word, Body, else_block, pair, if_row, while_row, repeat_row, region_named, forked, fork_in, fork_row, row, fork_block, stmt_in, stmts_in, no_brace, block_within, make_test, test_within, test}
-use Rattle.tl_check.proofs.Unrolled.{fold-If, fold-While, fold-Repeat, fold-Fork}
+use Rattle.tl_ast.specs.ExprGrammar.{expr_limits}
+use Rattle.tl_ast.specs.TestGrammar.{word_name, stmt_word, token_stmt_word, begins_stmt, is_forking, some_forking, too_many_forks, with_line, first_word, Body, else_block, pair, if_row, while_row, repeat_row, region_named, forked, fork_in, fork_row, row, fork_block, stmt_in, stmts_in, no_brace, block_within, test_within, test}
 use Rattle.tl_text.proofs.Texts.{spelled_found, found_spelled}
 use Rattle.tl_ast.specs.Tests.{test_of}
-use Rattle.tl_round.specs.Relined.{Placed, in_turn, braced_at, if_at, behind_else, placed_level, stmt_placed, relined}
-use Rattle.tl_round.proofs.Chunks.{Before, Blank, Chunk, Line, Says, says_both, says_after, says_behind, says_then, says_on, says_as, says_text, says_left, says_right, says_nothing, says_cons, says_none, chunk_both, chunk_on, space_chunk, feed_chunk, nothing_chunk, line_both, line_spaced}
-use Rattle.tl_round.proofs.Tokens.{is_word_text, word_says, name_line, keyword_line, open_brace_line, close_brace_line}
-use Rattle.tl_round.proofs.Sound.{Sound, SoundToken, items_sound}
+use Rattle.tl_round.specs.Relined.{stmt_placed, relined}
+use Rattle.tl_round.proofs.Chunks.{Blank, Chunk, Says, says_both, says_after, says_behind, says_on, says_text, says_cons, says_none, chunk_both, chunk_on, space_chunk, feed_chunk, nothing_chunk}
+use Rattle.tl_round.proofs.Tokens.{is_word_text, word_says, open_brace_line, close_brace_line}
+use Rattle.tl_round.proofs.Sound.{items_sound}
 use Rattle.tl_round.proofs.Keeps.{Keeps, Any, any, Each, keeps_to, keeps_both, keeps_after, keeps_either, keeps_nothing, keeps_stop, keeps_one, keeps_many, keeps_second, keeps_first}
 use Rattle.tl_round.proofs.Depth.{keeps_name}
-use Rattle.tl_round.proofs.Ports.{Good, good_line, keeps_good}
-use Rattle.tl_round.proofs.ExprLines.{line_as}
-use Rattle.tl_round.proofs.Blocks.{lines_of, braces, placed_from, BodySaid, OtherSaid, while_said, repeat_said, if_said, fork_said}
+use Rattle.tl_round.proofs.Ports.{Good, keeps_good}
+use Rattle.tl_round.proofs.Blocks.{lines_of, placed_from, BodySaid, OtherSaid, while_said, repeat_said, if_said, fork_said}
 use Rattle.tl_round.proofs.Rows.{RowSaid, keeps_poke, keeps_expect, keeps_let, keeps_set, keeps_peek, keeps_step, keeps_reset, keeps_join, keeps_join_step, keeps_driver}
 
 -- ---- rows
@@ -206,7 +199,7 @@ module _ (block : ℕ → Body) (f : ℕ) where
   stmts_said [] h i blank p line e = says_on (says_none (stmt_in expr_limits block f) begins_stmt p) e
   stmts_said (x ∷ more) h i blank p line e =
       let here : Says (stmt_in expr_limits block f) false (stmt_text x i) (stmt_placed x line).0 p (stmt_placed x line).1 =
-          subst (λ (n : ℕ). Says (stmt_in expr_limits block f) false (stmt_text x i) (stmt_placed x n).0 p (stmt_placed x n).1) e (h.0.said i blank p) in
+      subst (λ (n : ℕ). Says (stmt_in expr_limits block f) false (stmt_text x i) (stmt_placed x n).0 p (stmt_placed x n).1) e (h.0.said i blank p) in
       says_cons begins_stmt here (λ q k. stmts_said more h.1 i blank q (stmt_placed x line).1 k) (λ rest z. tt)
 
 -- ---- blocks
