@@ -41,7 +41,8 @@ pub chunk_both : (a b : Bool) (t u : List ℕ) (p : Place) (ts us : List Item) (
 chunk_both a b t u p ts us l m h k seam = record {
   end = k.end;
   on = k.on;
-  cut = λ rest e. ap (items_from 0 p) (append_assoc t u rest) ∙ h.cut (u ++ rest) (seam rest e) ∙ ap (λ (z : List Item). ts ++ z) (k.cut rest e) ∙ sym (append_assoc ts us _);
+  cut = λ rest e. ap (items_from 0 p) (append_assoc t u rest) ∙ h.cut (u ++ rest) (seam rest e) ∙ ap (λ (z : List Item). ts ++ z)
+      (k.cut rest e) ∙ sym (append_assoc ts us _);
 }
 
 pub chunk_more : (b : Bool) (t : List ℕ) (p : Place) (ts : List Item) (l : ℕ) → Chunk b t p ts l → Chunk true t p ts l
@@ -71,10 +72,12 @@ pub says_on : {A : Type 0} {P : Part A} {b : Bool} {t : List ℕ} {a : A} {p : P
 says_on h e = record { items = h.items; chunk = chunk_on h.chunk e; spelled = h.spelled }
 
 -- the same items spell another part
-pub says_as : {A B : Type 0} {P : Part A} {Q : Part B} {n : Bool} {t : List ℕ} {a : A} {b : B} {p : Place} {l : ℕ} → ((ts : List Item) → P.spells ts a → Q.spells ts b) → Says P n t a p l → Says Q n t b p l
+pub says_as : {A B : Type 0} {P : Part A} {Q : Part B} {n : Bool} {t : List ℕ} {a : A} {b : B} {p : Place} {l : ℕ}
+    → ((ts : List Item) → P.spells ts a → Q.spells ts b) → Says P n t a p l → Says Q n t b p l
 says_as go h = record { items = h.items; chunk = h.chunk; spelled = go h.items h.spelled }
 
-pub says_text : {A : Type 0} {P : Part A} {b : Bool} {t u : List ℕ} {a : A} {p : Place} {l : ℕ} → t ≡ u → Says P b t a p l → Says P b u a p l
+pub says_text : {A : Type 0} {P : Part A} {b : Bool} {t u : List ℕ} {a : A} {p : Place} {l : ℕ} → t ≡ u → Says P b t a p l
+    → Says P b u a p l
 says_text {P = P} {b = b} {a = a} {p = p} {l = l} e h = subst (λ (z : List ℕ). Says P b z a p l) e h
 
 module _ {A B : Type 0} {P : Part A} {x y : Bool} {t u : List ℕ} {a : A} {b : B} {p : Place} {l m : ℕ} where
@@ -105,8 +108,10 @@ module _ {A B : Type 0} {P : Part A} {x y : Bool} {t u : List ℕ} {a : A} {b : 
   says_after Q h k seam = after_join Q h (k h.chunk.end h.chunk.on) seam
 
 -- one more of many
-pub says_cons : {A : Type 0} {P : Part A} {x y : Bool} {t u : List ℕ} {a : A} {all : List A} {p : Place} {l m : ℕ} (begins : Item → Bool) → Says P x t a p l
-    → ((q : Place) → q.line ≡ l → Says (many begins P) y u all q m) → ((rest : List ℕ) → Before y rest → Before x (u ++ rest)) → Says (many begins P) y (t ++ u) (a ∷ all) p m
+pub says_cons : {A : Type 0} {P : Part A} {x y : Bool} {t u : List ℕ} {a : A} {all : List A} {p : Place} {l m : ℕ} (begins : Item → Bool)
+    → Says P x t a p l
+    → ((q : Place) → q.line ≡ l → Says (many begins P) y u all q m) → ((rest : List ℕ) → Before y rest → Before x (u ++ rest))
+    → Says (many begins P) y (t ++ u) (a ∷ all) p m
 unfolding many
 says_cons {x = x} {y = y} {t = t} {u = u} {p = p} {l = l} {m = m} begins h k seam =
     let g = k h.chunk.end h.chunk.on in
@@ -121,33 +126,49 @@ unfolding many
 says_none P begins p = record { items = []; chunk = nothing_chunk p; spelled = refl }
 
 -- with blanks behind
-pub says_then : {A : Type 0} {P : Part A} {x : Bool} {t u : List ℕ} {a : A} {p : Place} {l m : ℕ} → Says P x t a p l → ((q : Place) → q.line ≡ l → Chunk false u q [] m)
+pub says_then : {A : Type 0} {P : Part A} {x : Bool} {t u : List ℕ} {a : A} {p : Place} {l m : ℕ} → Says P x t a p l
+    → ((q : Place) → q.line ≡ l → Chunk false u q [] m)
     → ((rest : List ℕ) → Before x (u ++ rest)) → Says P false (t ++ u) a p m
 says_then {P = P} {x = x} {t = t} {u = u} {a = a} {p = p} {l = l} {m = m} h k seam =
     let g : Chunk false u h.chunk.end [] m = k h.chunk.end h.chunk.on in
-    record { items = h.items ++ []; chunk = chunk_both x false t u p h.items [] l m h.chunk g (λ rest e. seam rest); spelled = subst (λ (z : List Item). P.spells z a) (sym (append-nil h.items)) h.spelled }
+    record {
+      items = h.items ++ [];
+      chunk = chunk_both x false t u p h.items [] l m h.chunk g (λ rest e. seam rest);
+      spelled = subst
+          (λ (z : List Item). P.spells z a) (sym (append-nil h.items)) h.spelled;
+    }
 
 -- behind blanks
-pub says_behind : {A : Type 0} {P : Part A} {y : Bool} {t u : List ℕ} {a : A} {p : Place} {l m : ℕ} → Chunk false t p [] l → ((q : Place) → q.line ≡ l → Says P y u a q m) → Says P y (t ++ u) a p m
+pub says_behind : {A : Type 0} {P : Part A} {y : Bool} {t u : List ℕ} {a : A} {p : Place} {l m : ℕ} → Chunk false t p [] l
+    → ((q : Place) → q.line ≡ l → Says P y u a q m) → Says P y (t ++ u) a p m
 says_behind {P = P} {y = y} {t = t} {u = u} {a = a} {p = p} {l = l} {m = m} h k =
     let g : Says P y u a h.end m = k h.end h.on in
     record { items = g.items; chunk = chunk_both false y t u p [] g.items l m h g.chunk (λ rest e. tt); spelled = g.spelled }
 
-pub behind_join : {A : Type 0} {P : Part A} {y : Bool} {t u : List ℕ} {a : A} {p : Place} {l m : ℕ} (h : Chunk false t p [] l) → Says P y u a h.end m → Says P y (t ++ u) a p m
+pub behind_join : {A : Type 0} {P : Part A} {y : Bool} {t u : List ℕ} {a : A} {p : Place} {l m : ℕ} (h : Chunk false t p [] l)
+    → Says P y u a h.end m → Says P y (t ++ u) a p m
 behind_join {y = y} {t = t} {u = u} {p = p} {l = l} {m = m} h g =
     record { items = g.items; chunk = chunk_both false y t u p [] g.items l m h g.chunk (λ rest e. tt); spelled = g.spelled }
 
 -- two parts one behind the other, which spell a third
-pub join_as : {A B C : Type 0} {P : Part A} {Q : Part B} (R : Part C) {x y : Bool} {t u : List ℕ} {a : A} {b : B} (c : C) {p : Place} {l m : ℕ} (h : Says P x t a p l) → Says Q y u b h.chunk.end m
-    → ((rest : List ℕ) → Before y rest → Before x (u ++ rest)) → ((ts us : List Item) → P.spells ts a → Q.spells us b → R.spells (ts ++ us) c) → Says R y (t ++ u) c p m
+pub join_as : {A B C : Type 0} {P : Part A} {Q : Part B} (R : Part C) {x y : Bool} {t u : List ℕ} {a : A} {b : B}
+    (c : C) {p : Place} {l m : ℕ} (h : Says P x t a p l) → Says Q y u b h.chunk.end m
+    → ((rest : List ℕ) → Before y rest → Before x (u ++ rest)) → ((ts us : List Item) → P.spells ts a → Q.spells us b
+    → R.spells (ts ++ us) c) → Says R y (t ++ u) c p m
 join_as R {x = x} {y = y} {t = t} {u = u} c {p = p} {l = l} {m = m} h g seam go =
-    record { items = h.items ++ g.items; chunk = chunk_both x y t u p h.items g.items l m h.chunk g.chunk seam; spelled = go h.items g.items h.spelled g.spelled }
+    record {
+      items = h.items ++ g.items;
+      chunk = chunk_both x y t u p h.items g.items l m h.chunk g.chunk seam;
+      spelled = go h.items g.items h.spelled g.spelled;
+    }
 
-pub says_left : {A : Type 0} {P : Part A} {n : Bool} {t : List ℕ} {a : A} {p : Place} {l : ℕ} (test : Item → Bool) (Q : Part A) → Says P n t a p l → Says (either test P Q) n t a p l
+pub says_left : {A : Type 0} {P : Part A} {n : Bool} {t : List ℕ} {a : A} {p : Place} {l : ℕ} (test : Item → Bool) (Q : Part A)
+    → Says P n t a p l → Says (either test P Q) n t a p l
 unfolding either
 says_left test Q h = record { items = h.items; chunk = h.chunk; spelled = inl h.spelled }
 
-pub says_right : {A : Type 0} {Q : Part A} {n : Bool} {t : List ℕ} {a : A} {p : Place} {l : ℕ} (test : Item → Bool) (P : Part A) → Says Q n t a p l → Says (either test P Q) n t a p l
+pub says_right : {A : Type 0} {Q : Part A} {n : Bool} {t : List ℕ} {a : A} {p : Place} {l : ℕ} (test : Item → Bool) (P : Part A)
+    → Says Q n t a p l → Says (either test P Q) n t a p l
 unfolding either
 says_right test P h = record { items = h.items; chunk = h.chunk; spelled = inr h.spelled }
 
@@ -157,7 +178,8 @@ says_nothing a p = record { items = []; chunk = nothing_chunk p; spelled = (refl
 
 -- ---- on one line
 
-pub line_both : {A B C : Type 0} {P : Part A} {Q : Part B} {x y : Bool} {t u : List ℕ} {a : A} {b : B} (f : A → B → C) → Line P x t a → Line Q y u b
+pub line_both : {A B C : Type 0} {P : Part A} {Q : Part B} {x y : Bool} {t u : List ℕ} {a : A} {b : B} (f : A → B → C) → Line P x t a
+    → Line Q y u b
     → ((rest : List ℕ) → Before y rest → Before x (u ++ rest)) → Line (both f P Q) y (t ++ u) (f a b)
 line_both f h k seam p = says_both f (h p) (λ q e. says_on (k q) e) seam
 
@@ -177,7 +199,8 @@ line_more h p = says_more (h p)
 pub line_text : {A : Type 0} {P : Part A} {b : Bool} {t u : List ℕ} {a : A} → t ≡ u → Line P b t a → Line P b u a
 line_text e h p = says_text e (h p)
 
-pub line_end : {A B C : Type 0} {P : Part A} {b : B} {x : Bool} {t : List ℕ} {a : A} (f : A → B → C) → Line P x t a → Line (both f P (nothing b)) x t (f a b)
+pub line_end : {A B C : Type 0} {P : Part A} {b : B} {x : Bool} {t : List ℕ} {a : A} (f : A → B → C) → Line P x t a
+    → Line (both f P (nothing b)) x t (f a b)
 unfolding both nothing
 line_end {b = b} {a = a} f h p =
     let g = h p in

@@ -66,7 +66,8 @@ depth_var w t = ap (λ f. f t) (fold-Var (ℕ → ℕ) depth_level w)
 pub depth_neg : (x : TestExpr) (t : ℕ) → depth (e.Neg x) t ≡ depth x minus_asks
 depth_neg x t = ap (λ f. f t) (fold-Neg (ℕ → ℕ) depth_level x)
 
-pub depth_two : (o : TestOp) (a b : TestExpr) (t : ℕ) → depth (e.Two o a b) t ≡ suc_if (nat_lt (tightness o) t) (max (depth a (left_asks o)) (depth b (right_asks o)))
+pub depth_two : (o : TestOp) (a b : TestExpr) (t : ℕ) → depth (e.Two o a b) t ≡ suc_if (nat_lt (tightness o) t)
+    (max (depth a (left_asks o)) (depth b (right_asks o)))
 depth_two o a b t = ap (λ f. f t) (fold-Two (ℕ → ℕ) depth_level o a b)
 
 pub six : (o : TestOp) → looseness o + tightness o ≡ 6
@@ -103,10 +104,12 @@ two_places o a b = record {
   wrapped = λ t. behind (nat_lt (tightness o) t) t refl;
 }
   where
-    at : (t : ℕ) (x : Bool) → nat_lt (tightness o) t ≡ x → depth (e.Two o a b) t ≡ suc_if x (max (depth a (left_asks o)) (depth b (right_asks o)))
+    at : (t : ℕ) (x : Bool) → nat_lt (tightness o) t ≡ x → depth (e.Two o a b) t ≡ suc_if x
+        (max (depth a (left_asks o)) (depth b (right_asks o)))
     at t x h = depth_two o a b t ∙ ap (λ z. suc_if z (max (depth a (left_asks o)) (depth b (right_asks o)))) h
 
-    by : (x y : Bool) (t u : ℕ) → nat_lt (tightness o) t ≡ x → nat_lt (tightness o) u ≡ y → t ≤ u → depth (e.Two o a b) t ≤ depth (e.Two o a b) u
+    by : (x y : Bool) (t u : ℕ) → nat_lt (tightness o) t ≡ x → nat_lt (tightness o) u ≡ y → t ≤ u → depth (e.Two o a b) t ≤ depth
+        (e.Two o a b) u
     by false false t u h k le = omega (arith, at t false h, at u false k)
     by false true t u h k le = omega (arith, at t false h, at u true k)
     by true true t u h k le = omega (arith, at t true h, at u true k)
@@ -132,10 +135,12 @@ places : (x : TestExpr) → Places x
 places = ind-TestExpr Places (λ x y is. subst (λ z. Places (roll-TestExpr z)) is (places_level y))
 
 pub fine_less : (d t u : ℕ) (x : TestExpr) → t ≤ u → Fine d u x → Fine d t x
-fine_less d t u x le h = let shallow = h.shallow in let less = (places x).less t u le in record { shallow = omega (arith, shallow, less); sound = h.sound }
+fine_less d t u x le h = let shallow = h.shallow in let less = (places x).less t u le in
+    record { shallow = omega (arith, shallow, less); sound = h.sound }
 
 pub fine_wrapped : (d t : ℕ) (x : TestExpr) → Fine d 0 x → Fine (suc d) t x
-fine_wrapped d t x h = let shallow = h.shallow in let more = (places x).wrapped t in record { shallow = omega (arith, shallow, more); sound = h.sound }
+fine_wrapped d t x h = let shallow = h.shallow in let more = (places x).wrapped t in
+    record { shallow = omega (arith, shallow, more); sound = h.sound }
 
 -- ---- made of
 
@@ -149,14 +154,24 @@ fine_var : (d t : ℕ) (w : List ℕ) → is_word_text w ≡ true → Fine d t (
 fine_var d t w h = record { shallow = omega (arith, depth_var w t); sound = fold-Var Bool sound_level w ∙ h }
 
 fine_neg : (d t : ℕ) (x : TestExpr) → Fine d minus_asks x → Fine d t (e.Neg x)
-fine_neg d t x h = let shallow = h.shallow in record { shallow = omega (arith, depth_neg x t, shallow); sound = fold-Neg Bool sound_level x ∙ h.sound }
+fine_neg d t x h = let shallow = h.shallow in record {
+  shallow = omega (arith, depth_neg x t, shallow);
+  sound = fold-Neg Bool sound_level x
+      ∙ h.sound;
+}
 
-fine_two : (d t : ℕ) (o : TestOp) (a b : TestExpr) → t ≤ tightness o → Fine d (left_asks o) a → Fine d (right_asks o) b → Fine d t (e.Two o a b)
+fine_two : (d t : ℕ) (o : TestOp) (a b : TestExpr) → t ≤ tightness o → Fine d (left_asks o) a → Fine d (right_asks o) b
+    → Fine d t (e.Two o a b)
 fine_two d t o a b le h k =
     let one = h.shallow in
     let two = k.shallow in
-    let bare = depth_two o a b t ∙ ap (λ z. suc_if z (max (depth a (left_asks o)) (depth b (right_asks o)))) (not_below (tightness o) t le) in
-    record { shallow = omega (arith, one, two, bare); sound = fold-Two Bool sound_level o a b ∙ and_from (is_sound a) (is_sound b) h.sound k.sound }
+    let bare = depth_two o a b t ∙ ap (λ z. suc_if z (max (depth a (left_asks o)) (depth b (right_asks o))))
+    (not_below (tightness o) t le) in
+    record {
+      shallow = omega (arith, one, two, bare);
+      sound = fold-Two Bool sound_level o a b ∙ and_from (is_sound a)
+          (is_sound b) h.sound k.sound;
+    }
 
 fine_negated : (d n : ℕ) (x : TestExpr) → Fine d 7 x → Fine d 7 (negated n x)
 fine_negated d zero x h = h
@@ -201,11 +216,13 @@ keeps_number = keeps_one _ kind_of _ (λ x n sound h. number_is x.token n sound 
 
 keeps_literal : (d count : ℕ) → Keeps (FineAt d 7) (literal count)
 unfolding literal
-keeps_literal d count = keeps_both _ _ _ number (nothing tt) keeps_number (λ n h. keeps_to Any _ _ (λ u t. fine_num d 7 n h) (any (nothing tt)))
+keeps_literal d count = keeps_both _ _ _ number (nothing tt) keeps_number (λ n h. keeps_to Any _ _ (λ u t. fine_num d 7 n h)
+    (any (nothing tt)))
 
 keeps_variable : (d count : ℕ) → Keeps (FineAt d 7) (variable count)
 unfolding variable
-keeps_variable d count = keeps_both _ _ _ name (nothing tt) keeps_name (λ w h. keeps_to Any _ _ (λ u t. fine_var d 7 w h) (any (nothing tt)))
+keeps_variable d count = keeps_both _ _ _ name (nothing tt) keeps_name (λ w h. keeps_to Any _ _ (λ u t. fine_var d 7 w h)
+    (any (nothing tt)))
 
 module _ (most : Option ℕ) (d : ℕ) (inside : ℕ → Part Counted) (h : (count : ℕ) → Keeps (FineAt d 7) (inside count)) where
   keeps_plain : (count : ℕ) → Keeps (FineAt d 7) (plain inside count)
@@ -234,13 +251,15 @@ module _ (most : Option ℕ) (d : ℕ) (inside : ℕ → Part Counted) (h : (cou
   keeps_operand count = keeps_either _ is_number _ _ (keeps_literal d count) (keeps_other_operand count)
 
   -- an operator of this looseness, where its operands fit beside it
-  keeps_one_more : (n t : ℕ) (right : ℕ → Part Counted) (v : Counted) → n ≤ 6 → t ≤ 6 - n → ((count : ℕ) → Keeps (FineAt d (7 - n)) (right count))
+  keeps_one_more : (n t : ℕ) (right : ℕ → Part Counted) (v : Counted) → n ≤ 6 → t ≤ 6 - n
+      → ((count : ℕ) → Keeps (FineAt d (7 - n)) (right count))
       → Fine d (max 1 (6 - n)) v.0 → Keeps (FineAt d t) (one_more most n right v)
   unfolding one_more
   keeps_one_more n t right v small le k q = keeps_second (FineAt d t) (room most v.1) _
       (keeps_both (λ o. looseness o ≡ n) (FineAt d t) _ (operator n) (right (suc v.1)) (keeps_operator n)
       (λ o is. let all = six o in keeps_to (FineAt d (7 - n)) _ _ (λ w r. fine_two d t o v.0 w.0 (omega (arith, all, is, le, small))
-      (fine_less d (left_asks o) (max 1 (6 - n)) v.0 (omega (arith, all, is, small)) q) (fine_less d (right_asks o) (7 - n) w.0 (omega (arith, all, is, small)) r)) (k (suc v.1))))
+      (fine_less d (left_asks o) (max 1 (6 - n)) v.0 (omega (arith, all, is, small)) q)
+      (fine_less d (right_asks o) (7 - n) w.0 (omega (arith, all, is, small)) r)) (k (suc v.1))))
 
   keeps_behind : (n : ℕ) (v : Counted) → n ≤ 6 → Fine d 7 v.0 → Keeps (FineAt d (7 - n)) (behind most inside n v)
   unfolding behind
@@ -248,7 +267,8 @@ module _ (most : Option ℕ) (d : ℕ) (inside : ℕ → Part Counted) (h : (cou
   keeps_behind (suc n) v small q =
       keeps_after (FineAt d (7 - n)) (FineAt d (7 - suc n)) _ _ (keeps_behind n v (omega (arith, small)) q)
       (λ w r. keeps_grow (FineAt d (7 - suc n)) always _
-      (λ x t y. keeps_one_more n (7 - suc n) _ x (omega (arith, small)) (omega (arith, small)) (λ count. keeps_after (FineAt d 7) (FineAt d (7 - n)) _ _ (keeps_operand count)
+      (λ x t y. keeps_one_more n (7 - suc n) _ x (omega (arith, small)) (omega (arith, small))
+      (λ count. keeps_after (FineAt d 7) (FineAt d (7 - n)) _ _ (keeps_operand count)
       (λ z p. keeps_behind n z (omega (arith, small)) p)) (fine_less d (max 1 (6 - n)) (7 - suc n) x.0 (omega (arith, small)) y))
       (is_operator n) w (fine_less d (7 - suc n) (7 - n) w.0 (omega arith) r))
 
@@ -275,7 +295,8 @@ unfolding parens
 keeps_parens most zero count = keeps_stop _ TooDeep
 keeps_parens most (suc d) count =
     keeps_second (FineAt (suc d) 7) (mark s.OpenParen) _ (keeps_first (FineAt (suc d) 7) _ (mark s.CloseParen)
-    (keeps_to (FineAt d 0) (FineAt (suc d) 7) _ (λ v q. fine_wrapped d 7 v.0 q) (keeps_expr_in most d (parens most d) (keeps_parens most d) count)))
+    (keeps_to (FineAt d 0) (FineAt (suc d) 7) _ (λ v q. fine_wrapped d 7 v.0 q)
+    (keeps_expr_in most d (parens most d) (keeps_parens most d) count)))
 
 -- ---- the parts that statements are made of
 

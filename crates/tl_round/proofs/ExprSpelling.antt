@@ -40,36 +40,46 @@ module _ (most : Option ℕ) (inside : ℕ → Part Counted) where
   behind_none zero v = (refl, refl)
   behind_none (suc n) v = ([], [], v, refl, behind_none n v, ([], (refl, refl)))
 
-  pub operand_level : (n count : ℕ) (ts : List Item) (v : Counted) → (operand most inside count).spells ts v → (level most inside n count).spells ts v
+  pub operand_level : (n count : ℕ) (ts : List Item) (v : Counted) → (operand most inside count).spells ts v
+      → (level most inside n count).spells ts v
   unfolding level after
   operand_level n count ts v h = (ts, [], v, sym (append-nil ts), h, behind_none n v)
 
-  pub level_operand : (count : ℕ) (ts : List Item) (v : Counted) → (level most inside 0 count).spells ts v → (operand most inside count).spells ts v
+  pub level_operand : (count : ℕ) (ts : List Item) (v : Counted) → (level most inside 0 count).spells ts v
+      → (operand most inside count).spells ts v
   unfolding level after behind nothing
   level_operand count ts v h =
       let same : h.0 ≡ ts = sym (append-nil h.0) ∙ ap (λ (z : List Item). h.0 ++ z) (sym h.5.0) ∙ sym h.3 in
-      subst (λ (z : List Item). (operand most inside count).spells z v) same (subst (λ z. (operand most inside count).spells h.0 z) (sym h.5.1) h.4)
+      subst (λ (z : List Item). (operand most inside count).spells z v) same (subst (λ z. (operand most inside count).spells h.0 z)
+      (sym h.5.1) h.4)
 
-  level_up : (n count : ℕ) (ts : List Item) (v : Counted) → (level most inside n count).spells ts v → (level most inside (suc n) count).spells ts v
+  level_up : (n count : ℕ) (ts : List Item) (v : Counted) → (level most inside n count).spells ts v
+      → (level most inside (suc n) count).spells ts v
   unfolding level after behind grow
   level_up n count ts v h = (h.0, h.1, h.2, h.3, h.4, (h.1, [], v, sym (append-nil h.1), h.5, ([], (refl, refl))))
 
-  level_raised : (k n count : ℕ) (ts : List Item) (v : Counted) → (level most inside n count).spells ts v → (level most inside (k + n) count).spells ts v
+  level_raised : (k n count : ℕ) (ts : List Item) (v : Counted) → (level most inside n count).spells ts v
+      → (level most inside (k + n) count).spells ts v
   level_raised zero n count ts v h = subst (λ (z : ℕ). (level most inside z count).spells ts v) (let e : n ≡ zero + n = omega arith in e) h
   level_raised (suc k) n count ts v h =
-      subst (λ (z : ℕ). (level most inside z count).spells ts v) (let e : suc (k + n) ≡ suc k + n = omega arith in e) (level_up (k + n) count ts v (level_raised k n count ts v h))
+      subst (λ (z : ℕ). (level most inside z count).spells ts v) (let e : suc (k + n) ≡ suc k + n = omega arith in e)
+      (level_up (k + n) count ts v (level_raised k n count ts v h))
 
-  pub level_wider : (n m count : ℕ) (ts : List Item) (v : Counted) → n ≤ m → (level most inside n count).spells ts v → (level most inside m count).spells ts v
+  pub level_wider : (n m count : ℕ) (ts : List Item) (v : Counted) → n ≤ m → (level most inside n count).spells ts v
+      → (level most inside m count).spells ts v
   level_wider n m count ts v le h =
-      subst (λ (z : ℕ). (level most inside z count).spells ts v) (let e : (m - n) + n ≡ m = omega (arith, le) in e) (level_raised (m - n) n count ts v h)
+      subst (λ (z : ℕ). (level most inside z count).spells ts v) (let e : (m - n) + n ≡ m = omega (arith, le) in e)
+      (level_raised (m - n) n count ts v h)
 
-  pub level_whole : (count : ℕ) (ts : List Item) (v : Counted) → (level most inside comparison count).spells ts v → (expr_in most inside count).spells ts v
+  pub level_whole : (count : ℕ) (ts : List Item) (v : Counted) → (level most inside comparison count).spells ts v
+      → (expr_in most inside count).spells ts v
   unfolding level expr_in expr_behind compared after either nothing
   level_whole count ts v h = (h.0, h.1, h.2, h.3, h.4, (h.1, [], v, sym (append-nil h.1), h.5, inr (refl, refl)))
 
   -- an operator more
   pub level_grown : (n count : ℕ) (ts : List Item) (w : Counted)
-      → (after (level most inside (suc n) count) (one_more most n (level most inside n))).spells ts w → (level most inside (suc n) count).spells ts w
+      → (after (level most inside (suc n) count) (one_more most n (level most inside n))).spells ts w
+      → (level most inside (suc n) count).spells ts w
   unfolding level after behind grow
   level_grown n count ts w h =
       let front = h.4 in
@@ -81,11 +91,19 @@ module _ (most : Option ℕ) (inside : ℕ → Part Counted) where
         front.2,
         whole,
         front.4,
-        (tail.0, tail.1 ++ h.1, tail.2, rest, tail.4, (tail.5.0 ++ w ∷ [], grows_more always _ tail.5.0 tail.2 h.2 w tail.1 h.1 tail.5.1 refl h.5)),
+        (
+          tail.0,
+          tail.1 ++ h.1,
+          tail.2,
+          rest,
+          tail.4,
+          (tail.5.0 ++ w ∷ [], grows_more always _ tail.5.0 tail.2 h.2 w tail.1 h.1 tail.5.1 refl h.5),
+        ),
       )
 
   pub whole_compared : (count : ℕ) (ts : List Item) (w : Counted)
-      → (after (level most inside comparison count) (one_more most comparison (level most inside comparison))).spells ts w → (expr_in most inside count).spells ts w
+      → (after (level most inside comparison count) (one_more most comparison (level most inside comparison))).spells ts w
+      → (expr_in most inside count).spells ts w
   unfolding level expr_in expr_behind compared after either
   whole_compared count ts w h =
       let front = h.4 in
@@ -100,14 +118,34 @@ minus_count count now ts h = h.7 ∙ h.6.7
 
 minuses_more : (path : List ℕ) (a c : ℕ) (ts : List Item) → Grows always (λ b. (minus (Some 64) b).spells) a path ts c → a ≤ c
 minuses_more [] a c ts h = let same = h.1 in omega (arith, same)
-minuses_more (b ∷ path) a c ts h = let more = minuses_more path b c h.1 h.5 in let next = minus_count a b h.0 h.4 in omega (arith, more, next)
+minuses_more (b ∷ path) a c ts h = let more = minuses_more path b c h.1 h.5 in let next = minus_count a b h.0 h.4 in
+    omega (arith, more, next)
 
 minus_spelled : (count : ℕ) (ts : List Item) → count < 64 → (mark s.Minus).spells ts tt → (minus (Some 64) count).spells ts (suc count)
 unfolding minus both nothing
-minus_spelled count ts h k = ([], ts, tt, suc count, refl, room_spelled count h, (ts, [], tt, tt, sym (append-nil ts), k, (refl, refl), refl), refl)
+minus_spelled count ts h k = (
+  [],
+  ts,
+  tt,
+  suc count,
+  refl,
+  room_spelled count h,
+  (
+    ts,
+    [],
+    tt,
+    tt,
+    sym (append-nil ts),
+    k,
+    (refl, refl),
+    refl,
+  ),
+  refl,
+)
 
 module _ (inside : ℕ → Part Counted) where
-  sign_of_atom : (count c : ℕ) (x : TestExpr) (xs ys : List Item) → count < 64 → (mark s.Minus).spells xs tt → (atom inside (suc count)).spells ys (x, c)
+  sign_of_atom : (count c : ℕ) (x : TestExpr) (xs ys : List Item) → count < 64 → (mark s.Minus).spells xs tt
+      → (atom inside (suc count)).spells ys (x, c)
       → (signed (Some 64) inside count).spells (xs ++ ys) (e.Neg x, c)
   unfolding signed after minuses grow behind_signs both nothing
   sign_of_atom count c x xs ys less m h =
@@ -121,7 +159,8 @@ module _ (inside : ℕ → Part Counted) where
         (ys, [], (x, c), tt, sym (append-nil ys), h, (refl, refl), value),
       )
 
-  sign_of_signed : (count c : ℕ) (x : TestExpr) (xs ys : List Item) → count < 64 → (mark s.Minus).spells xs tt → (signed (Some 64) inside (suc count)).spells ys (x, c)
+  sign_of_signed : (count c : ℕ) (x : TestExpr) (xs ys : List Item) → count < 64 → (mark s.Minus).spells xs tt
+      → (signed (Some 64) inside (suc count)).spells ys (x, c)
       → (signed (Some 64) inside count).spells (xs ++ ys) (e.Neg x, c)
   unfolding signed after minuses grow behind_signs both nothing
   sign_of_signed count c x xs ys less m h =
@@ -137,15 +176,34 @@ module _ (inside : ℕ → Part Counted) where
         h.1,
         now,
         ap (λ (z : List Item). xs ++ z) h.3 ∙ sym (append_assoc xs h.0 h.1),
-        (xs, h.0, suc count, refl, minus_spelled count xs less m, (first ∷ signs.5.0, (signs.0, signs.1, signs.3, refl, signs.4, signs.5.1))),
+        (
+          xs,
+          h.0,
+          suc count,
+          refl,
+          minus_spelled count xs less m,
+          (first ∷ signs.5.0, (signs.0, signs.1, signs.3, refl, signs.4, signs.5.1)),
+        ),
         (last.0, last.1, last.2, last.3, last.4, last.5, last.6, value),
       )
 
   -- a `-` before an operand
-  pub neg_spelled : (count c : ℕ) (x : TestExpr) (ts : List Item) → count < 64 → (both second (mark s.Minus) (operand (Some 64) inside (suc count))).spells ts (x, c)
+  pub neg_spelled : (count c : ℕ) (x : TestExpr) (ts : List Item) → count < 64
+      → (both second (mark s.Minus) (operand (Some 64) inside (suc count))).spells ts (x, c)
       → (operand (Some 64) inside count).spells ts (e.Neg x, c)
   unfolding both operand other_operand either atom
-  neg_spelled count c x ts less h = subst (λ (z : List Item). (operand (Some 64) inside count).spells z (e.Neg x, c)) (sym h.4) (inr (inl (by (subst (λ z. (operand (Some 64) inside (suc count)).spells h.1 z) (sym h.7) h.6))))
+  neg_spelled count c x ts less h = subst (λ (z : List Item). (operand (Some 64) inside count).spells z (e.Neg x, c)) (sym h.4)
+      (inr (inl (by (subst (λ z. (operand (Some 64) inside (suc count)).spells h.1 z) (sym h.7) h.6))))
     where
+      signs_or_bare : (other_operand (Some 64) inside (suc count)).spells h.1 (x, c)
+          → (signed (Some 64) inside count).spells (h.0 ++ h.1) (e.Neg x, c)
+      signs_or_bare sp = elim sp [
+        | inl signs ↦ sign_of_signed count c x h.0 h.1 less h.5 signs
+        | inr bare ↦ sign_of_atom count c x h.0 h.1 less h.5 (inr bare)
+      ]
+
       by : (operand (Some 64) inside (suc count)).spells h.1 (x, c) → (signed (Some 64) inside count).spells (h.0 ++ h.1) (e.Neg x, c)
-      by sp = elim sp [ inl literal ↦ sign_of_atom count c x h.0 h.1 less h.5 (inl literal) | inr other ↦ elim other [ inl signs ↦ sign_of_signed count c x h.0 h.1 less h.5 signs | inr bare ↦ sign_of_atom count c x h.0 h.1 less h.5 (inr bare) ] ]
+      by sp = elim sp [
+        | inl literal ↦ sign_of_atom count c x h.0 h.1 less h.5 (inl literal)
+        | inr other ↦ signs_or_bare other
+      ]

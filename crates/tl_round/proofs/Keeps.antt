@@ -59,10 +59,14 @@ unfolding stop
 keeps_stop Q kind = record { keeps = λ ts a sound sp. absurd sp }
 
 -- one item
-pub keeps_one : {A : Type 0} (Q : A → Type 0) (why : Item → Kind) (f : Item → Option A) → ((x : Item) (a : A) → SoundToken x.token → f x ≡ Some a → Q a)
+pub keeps_one : {A : Type 0} (Q : A → Type 0) (why : Item → Kind) (f : Item → Option A)
+    → ((x : Item) (a : A) → SoundToken x.token → f x ≡ Some a → Q a)
     → Keeps Q (one_by why f)
 unfolding one_by
-keeps_one Q why f go = record { keeps = λ ts a sound sp. let all : Sound (sp.0 ∷ []) = subst (λ (z : List Item). Sound z) sp.1 sound in go sp.0 a all.0 sp.2 }
+keeps_one Q why f go = record {
+  keeps = λ ts a sound sp. let all : Sound (sp.0 ∷ []) = subst (λ (z : List Item). Sound z) sp.1 sound in
+      go sp.0 a all.0 sp.2;
+}
 
 -- of a list the same is asked of each
 abbrev pub Each : {A : Type 0} → (A → Type 0) → List A → Type 0

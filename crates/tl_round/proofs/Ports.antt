@@ -44,7 +44,8 @@ field_said w h = record { line = line_both (λ u v. codes "." ++ v) dot_line (na
 index_said : (n : ℕ) → n < 2 ^ 128 → Suffixed index (codes "[" ++ (decimal n ++ codes "]"))
 unfolding index
 index_said n h = record {
-  line = line_more (line_both (λ u m. codes "[" ++ (decimal m ++ codes "]")) open_bracket_line (line_both first (number_line n h) close_bracket_line (λ rest k. refl)) (λ rest k. tt));
+  line = line_more (line_both (λ u m. codes "[" ++ (decimal m ++ codes "]")) open_bracket_line
+      (line_both first (number_line n h) close_bracket_line (λ rest k. refl)) (λ rest k. tt));
   stop = λ rest. refl;
 }
 
@@ -74,19 +75,24 @@ longer_is w (t ∷ more) = longer_is (w ++ t) more ∙ append_assoc w t (all_of 
 module _ (p : Part (List ℕ)) (begins : Item → Bool) where
   pub suffixes_stop : (all : List (List ℕ)) → Each (Suffixed p) all → (rest : List ℕ) → Before true rest → Before true (all_of all ++ rest)
   suffixes_stop [] h rest k = k
-  suffixes_stop (t ∷ more) h rest k = subst (λ (z : List ℕ). Before true z) (sym (append_assoc t (all_of more) rest)) (h.0.stop (all_of more ++ rest))
+  suffixes_stop (t ∷ more) h rest k = subst (λ (z : List ℕ). Before true z) (sym (append_assoc t (all_of more) rest))
+      (h.0.stop (all_of more ++ rest))
 
   pub suffixes_line : (all : List (List ℕ)) → Each (Suffixed p) all → Line (many begins p) true (all_of all) all
   suffixes_line [] h = line_more (λ q. says_none p begins q)
-  suffixes_line (t ∷ more) h = λ q. says_cons begins (h.0.line q) (λ r e. says_on (suffixes_line more h.1 r) e) (λ rest k. suffixes_stop more h.1 rest k)
+  suffixes_line (t ∷ more) h = λ q. says_cons begins (h.0.line q) (λ r e. says_on (suffixes_line more h.1 r) e)
+      (λ rest k. suffixes_stop more h.1 rest k)
 
 -- ---- ports
 
-port_said : (w : List ℕ) (all : List (List ℕ)) → is_word_text w ≡ true → Each (Suffixed suffix) all → Line port true (longer w all) (longer w all)
+port_said : (w : List ℕ) (all : List (List ℕ)) → is_word_text w ≡ true → Each (Suffixed suffix) all → Line port true (longer w all)
+    (longer w all)
 unfolding port
-port_said w all h k = line_text (sym (longer_is w all)) (line_both longer (name_line w h) (suffixes_line suffix is_suffix all k) (λ rest z. suffixes_stop suffix is_suffix all k rest z))
+port_said w all h k = line_text (sym (longer_is w all)) (line_both longer (name_line w h) (suffixes_line suffix is_suffix all k)
+    (λ rest z. suffixes_stop suffix is_suffix all k rest z))
 
 pub keeps_port : Keeps (λ p. Line port true p p) port
 unfolding port
 keeps_port = keeps_both (λ w. is_word_text w ≡ true) _ longer name _ keeps_name
-    (λ w h. keeps_to (Each (Suffixed suffix)) _ _ (λ all k. port_said w all h k) (keeps_many (Suffixed suffix) suffix keeps_suffix is_suffix))
+    (λ w h. keeps_to (Each (Suffixed suffix)) _ _ (λ all k. port_said w all h k)
+    (keeps_many (Suffixed suffix) suffix keeps_suffix is_suffix))

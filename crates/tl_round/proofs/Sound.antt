@@ -52,8 +52,10 @@ run_passes : (p : ℕ → Bool) (bytes : List ℕ) → list_all p (take (prefix_
 run_passes p [] = refl
 run_passes p (b ∷ rest) = go (p b) refl (run_passes p rest)
   where
-    go : (x : Bool) → p b ≡ x → list_all p (take (prefix_len p rest) rest) ≡ true → list_all p (take (cond x (1 + prefix_len p rest) 0) (b ∷ rest)) ≡ true
-    go true e later = let one : 1 + prefix_len p rest ≡ suc (prefix_len p rest) = omega arith in rw one (and_from (p b) (list_all p (take (prefix_len p rest) rest)) e later)
+    go : (x : Bool) → p b ≡ x → list_all p (take (prefix_len p rest) rest) ≡ true
+        → list_all p (take (cond x (1 + prefix_len p rest) 0) (b ∷ rest)) ≡ true
+    go true e later = let one : 1 + prefix_len p rest ≡ suc (prefix_len p rest) = omega arith in
+        rw one (and_from (p b) (list_all p (take (prefix_len p rest) rest)) e later)
     go false e later = refl
 
 is_inside : (b : ℕ) → begins_word b ≡ true → is_in run_of.Word b ≡ true
@@ -63,7 +65,8 @@ word_sound : (b : ℕ) (rest : List ℕ) → begins_word b ≡ true → is_word_
 word_sound b rest h =
     let inside = is_inside b h in
     let one : 1 + run run_of.Word rest ≡ suc (run run_of.Word rest) = omega arith in
-    rw (inside, one) (and_from (begins_word b) (list_all (is_in run_of.Word) (take (run run_of.Word rest) rest)) h (run_passes (is_in run_of.Word) rest))
+    rw (inside, one) (and_from (begins_word b) (list_all (is_in run_of.Word) (take (run run_of.Word rest) rest)) h
+    (run_passes (is_in run_of.Word) rest))
 
 number_sound : (n : ℕ) → SoundToken (number_token n)
 number_sound n = go (nat_lt n (2 ^ 128)) refl
@@ -78,7 +81,8 @@ or_else_sound None n other h = h
 
 symbol_sound : (text : List ℕ) → Fits (symbol text)
 symbol_sound text =
-    or_else_sound (spelled doubles (take 2 text)) 2 (or_else (spelled singles (take 1 text)) 1 (record { token = Some token.Other; len = 1 }))
+    or_else_sound (spelled doubles (take 2 text)) 2
+    (or_else (spelled singles (take 1 text)) 1 (record { token = Some token.Other; len = 1 }))
     (or_else_sound (spelled singles (take 1 text)) 1 (record { token = Some token.Other; len = 1 }) (record { sound = tt }))
 
 piece_sound : (b : ℕ) (rest : List ℕ) → Fits (piece (b ∷ rest))

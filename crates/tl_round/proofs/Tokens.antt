@@ -51,13 +51,16 @@ line_kept (b ∷ t) p h =
     here true e k = absurd (let bad = rw e at k in cc)
     here false e k = rw e refl
 
-cut_off : (tok : Token) (t : List ℕ) (p : Place) (rest : List ℕ) → 1 ≤ length t → piece (t ++ rest) ≡ record { token = Some tok; len = length t }
+cut_off : (tok : Token) (t : List ℕ) (p : Place) (rest : List ℕ) → 1 ≤ length t → piece (t ++ rest)
+    ≡ record { token = Some tok; len = length t }
     → items_from 0 p (t ++ rest) ≡ record { place = p; token = tok } ∷ items_from 0 (place_behind p t) rest
 cut_off tok t p rest some h =
     let c : Piece = record { token = Some tok; len = length t } in
     let low : length t ≤ length (t ++ rest) = omega (arith, length-append t rest) in
-    let goes = piece_goes [] (placed c.token p []) (items_from 0 p (t ++ rest)) p (place_behind p t) (t ++ rest) c (sym h) some low refl (ap (place_behind p) (sym (take-append_seam t rest))) refl in
-    sym (subst (λ (z : List ℕ). record { place = p; token = tok } ∷ items_from 0 (place_behind p t) z ≡ items_from 0 p (t ++ rest)) (drop-append_seam t rest) goes)
+    let goes = piece_goes [] (placed c.token p []) (items_from 0 p (t ++ rest)) p (place_behind p t) (t ++ rest) c (sym h) some low refl
+    (ap (place_behind p) (sym (take-append_seam t rest))) refl in
+    sym (subst (λ (z : List ℕ). record { place = p; token = tok } ∷ items_from 0 (place_behind p t) z ≡ items_from 0 p (t ++ rest))
+    (drop-append_seam t rest) goes)
 
 pub token_says : {A : Type 0} (P : Part A) (need : Bool) (tok : Token) (t : List ℕ) (a : A) (p : Place) → 1 ≤ length t → no_feed t ≡ true
     → ((rest : List ℕ) → Before need rest → piece (t ++ rest) ≡ record { token = Some tok; len = length t })
@@ -105,14 +108,16 @@ word_begins b h = record {
   no_slash = grind (arith, nat_tests);
 }
 
-word_piece : (w rest : List ℕ) → is_word_text w ≡ true → Before true rest → piece (w ++ rest) ≡ record { token = Some (token.Word w); len = length w }
+word_piece : (w rest : List ℕ) → is_word_text w ≡ true → Before true rest → piece (w ++ rest)
+    ≡ record { token = Some (token.Word w); len = length w }
 unfolding piece
 word_piece [] rest h e = absurd cc
 word_piece (b ∷ w) rest h e =
     let both = and_parts (begins_word b) (list_all (is_in run_of.Word) w) h in
     let begins = both.0 in
     let facts = word_begins b begins in
-    let i = facts.inside in let f1 = facts.no_space in let f2 = facts.no_tab in let f3 = facts.no_feed_here in let f4 = facts.no_return in let f5 = facts.no_slash in
+    let i = facts.inside in let f1 = facts.no_space in let f2 = facts.no_tab in let f3 = facts.no_feed_here in let f4 = facts.no_return in
+    let f5 = facts.no_slash in
     let n = word_run (is_in run_of.Word) w rest both.1 (stops_no_word (get_or rest 0 0) e) in
     let one : 1 + length w ≡ suc (length w) = omega arith in
     let front = take-append_seam w rest in
@@ -222,7 +227,8 @@ unfolding piece
 digits_piece [] rest n k h v l q = absurd (omega (arith, k))
 digits_piece (d ∷ ds) rest n k h v l q =
     let facts = digit_begins d h.0 in
-    let f1 = facts.no_space in let f2 = facts.no_tab in let f3 = facts.no_feed_here in let f4 = facts.no_return in let f5 = facts.no_slash in
+    let f1 = facts.no_space in let f2 = facts.no_tab in let f3 = facts.no_feed_here in let f4 = facts.no_return in
+    let f5 = facts.no_slash in
     let f6 = facts.no_word in let f7 = facts.is in
     let size = number_len_is (d ∷ ds) rest k h q in
     let front = take-append_seam (d ∷ ds) rest in
@@ -276,7 +282,8 @@ pub mark_line : (symbol : Symbol) (need : Bool) (t : List ℕ) → 1 ≤ length 
     → ((rest : List ℕ) → Before need rest → piece (t ++ rest) ≡ mark_piece symbol (length t)) → Line (mark symbol) need t tt
 unfolding one_by
 mark_line symbol need t some free same cuts =
-    token_line (mark symbol) need (token.Symbol symbol) t tt some free cuts (λ p. (record { place = p; token = token.Symbol symbol }, refl, rw same refl))
+    token_line (mark symbol) need (token.Symbol symbol) t tt some free cuts
+    (λ p. (record { place = p; token = token.Symbol symbol }, refl, rw same refl))
 
 pub semicolon_line : Line (mark s.Semicolon) false (codes ";") tt
 unfolding piece
@@ -328,31 +335,43 @@ equal_line = mark_line s.Equal true (codes "=") (omega arith) refl refl equal_pi
 -- an operator
 pub operator_line : (o : TestOp) → Line (operator (looseness o)) true (op_text o) o
 unfolding operator one_by piece
-operator_line op.Add = token_line (operator (looseness op.Add)) true (token.Symbol s.Plus) (codes "+") op.Add (omega arith) refl (λ rest e. refl)
+operator_line op.Add = token_line (operator (looseness op.Add)) true (token.Symbol s.Plus) (codes "+") op.Add (omega arith) refl
+    (λ rest e. refl)
     (λ p. (record { place = p; token = token.Symbol s.Plus }, refl, refl))
-operator_line op.Sub = token_line (operator (looseness op.Sub)) true (token.Symbol s.Minus) (codes "-") op.Sub (omega arith) refl (λ rest e. refl)
+operator_line op.Sub = token_line (operator (looseness op.Sub)) true (token.Symbol s.Minus) (codes "-") op.Sub (omega arith) refl
+    (λ rest e. refl)
     (λ p. (record { place = p; token = token.Symbol s.Minus }, refl, refl))
-operator_line op.Mul = token_line (operator (looseness op.Mul)) true (token.Symbol s.Star) (codes "*") op.Mul (omega arith) refl (λ rest e. refl)
+operator_line op.Mul = token_line (operator (looseness op.Mul)) true (token.Symbol s.Star) (codes "*") op.Mul (omega arith) refl
+    (λ rest e. refl)
     (λ p. (record { place = p; token = token.Symbol s.Star }, refl, refl))
-operator_line op.And = token_line (operator (looseness op.And)) true (token.Symbol s.And) (codes "&") op.And (omega arith) refl (λ rest e. refl)
+operator_line op.And = token_line (operator (looseness op.And)) true (token.Symbol s.And) (codes "&") op.And (omega arith) refl
+    (λ rest e. refl)
     (λ p. (record { place = p; token = token.Symbol s.And }, refl, refl))
 operator_line op.Or = token_line (operator (looseness op.Or)) true (token.Symbol s.Or) (codes "|") op.Or (omega arith) refl (λ rest e. refl)
     (λ p. (record { place = p; token = token.Symbol s.Or }, refl, refl))
-operator_line op.Xor = token_line (operator (looseness op.Xor)) true (token.Symbol s.Xor) (codes "^") op.Xor (omega arith) refl (λ rest e. refl)
+operator_line op.Xor = token_line (operator (looseness op.Xor)) true (token.Symbol s.Xor) (codes "^") op.Xor (omega arith) refl
+    (λ rest e. refl)
     (λ p. (record { place = p; token = token.Symbol s.Xor }, refl, refl))
-operator_line op.Shl = token_line (operator (looseness op.Shl)) true (token.Symbol s.ShiftLeft) (codes "<<") op.Shl (omega arith) refl (λ rest e. refl)
+operator_line op.Shl = token_line (operator (looseness op.Shl)) true (token.Symbol s.ShiftLeft) (codes "<<") op.Shl (omega arith) refl
+    (λ rest e. refl)
     (λ p. (record { place = p; token = token.Symbol s.ShiftLeft }, refl, refl))
-operator_line op.Shr = token_line (operator (looseness op.Shr)) true (token.Symbol s.ShiftRight) (codes ">>") op.Shr (omega arith) refl (λ rest e. refl)
+operator_line op.Shr = token_line (operator (looseness op.Shr)) true (token.Symbol s.ShiftRight) (codes ">>") op.Shr (omega arith) refl
+    (λ rest e. refl)
     (λ p. (record { place = p; token = token.Symbol s.ShiftRight }, refl, refl))
-operator_line op.Eq = token_line (operator (looseness op.Eq)) true (token.Symbol s.EqualEqual) (codes "==") op.Eq (omega arith) refl (λ rest e. refl)
+operator_line op.Eq = token_line (operator (looseness op.Eq)) true (token.Symbol s.EqualEqual) (codes "==") op.Eq (omega arith) refl
+    (λ rest e. refl)
     (λ p. (record { place = p; token = token.Symbol s.EqualEqual }, refl, refl))
-operator_line op.Neq = token_line (operator (looseness op.Neq)) true (token.Symbol s.NotEqual) (codes "!=") op.Neq (omega arith) refl (λ rest e. refl)
+operator_line op.Neq = token_line (operator (looseness op.Neq)) true (token.Symbol s.NotEqual) (codes "!=") op.Neq (omega arith) refl
+    (λ rest e. refl)
     (λ p. (record { place = p; token = token.Symbol s.NotEqual }, refl, refl))
 operator_line op.Lt = token_line (operator (looseness op.Lt)) true (token.Symbol s.Less) (codes "<") op.Lt (omega arith) refl less_piece
     (λ p. (record { place = p; token = token.Symbol s.Less }, refl, refl))
-operator_line op.Leq = token_line (operator (looseness op.Leq)) true (token.Symbol s.LessEqual) (codes "<=") op.Leq (omega arith) refl (λ rest e. refl)
+operator_line op.Leq = token_line (operator (looseness op.Leq)) true (token.Symbol s.LessEqual) (codes "<=") op.Leq (omega arith) refl
+    (λ rest e. refl)
     (λ p. (record { place = p; token = token.Symbol s.LessEqual }, refl, refl))
-operator_line op.Gt = token_line (operator (looseness op.Gt)) true (token.Symbol s.Greater) (codes ">") op.Gt (omega arith) refl greater_piece
+operator_line op.Gt = token_line (operator (looseness op.Gt)) true (token.Symbol s.Greater) (codes ">") op.Gt
+    (omega arith) refl greater_piece
     (λ p. (record { place = p; token = token.Symbol s.Greater }, refl, refl))
-operator_line op.Geq = token_line (operator (looseness op.Geq)) true (token.Symbol s.GreaterEqual) (codes ">=") op.Geq (omega arith) refl (λ rest e. refl)
+operator_line op.Geq = token_line (operator (looseness op.Geq)) true (token.Symbol s.GreaterEqual) (codes ">=") op.Geq (omega arith) refl
+    (λ rest e. refl)
     (λ p. (record { place = p; token = token.Symbol s.GreaterEqual }, refl, refl))

@@ -38,10 +38,12 @@ With = (x : TestStmt) × IsSame x
 abbrev given : With → TestStmt
 given w = w.0
 
-rolled_same : (x : TestStmt-F TestStmt) (y : TestStmt) → y ≡ roll-TestStmt x → stmt_unlined y ≡ unlined_level (map-TestStmt TestStmt TestStmt stmt_unlined x)
+rolled_same : (x : TestStmt-F TestStmt) (y : TestStmt) → y ≡ roll-TestStmt x → stmt_unlined y ≡ unlined_level
+    (map-TestStmt TestStmt TestStmt stmt_unlined x)
 rolled_same x y e = ap stmt_unlined e ∙ unlined_roll x
 
-level_same : (x : TestStmt-F With) (line : ℕ) → stmt_unlined (placed_level (map-TestStmt TestStmt (Placed TestStmt) stmt_placed (map-TestStmt With TestStmt given x)) line).0
+level_same : (x : TestStmt-F With) (line : ℕ)
+    → stmt_unlined (placed_level (map-TestStmt TestStmt (Placed TestStmt) stmt_placed (map-TestStmt With TestStmt given x)) line).0
     ≡ unlined_level (map-TestStmt TestStmt TestStmt stmt_unlined (map-TestStmt With TestStmt given x))
 level_same (Poke old port value) line = rolled_same (Poke line port value) _ (sym (rolls-Poke line port value))
 level_same (Peek old port into) line = rolled_same (Peek line port into) _ (sym (rolls-Peek line port into))
@@ -57,13 +59,16 @@ level_same (If old cond taken other) line =
     ∙ ap (λ z. stmt.If 0 cond (map stmt_unlined (map given taken)) z) (else_same With given (λ b. b.1) other one.1)
 level_same (While old cond body) line =
     let one = in_turn (map stmt_placed (map given body)) (line + 1) in
-    rolled_same (While line cond one.0) _ (sym (rolls-While line cond one.0)) ∙ ap (stmt.While 0 cond) (turn_same With given (λ b. b.1) body (line + 1))
+    rolled_same (While line cond one.0) _ (sym (rolls-While line cond one.0)) ∙ ap (stmt.While 0 cond)
+    (turn_same With given (λ b. b.1) body (line + 1))
 level_same (Repeat old count body) line =
     let one = in_turn (map stmt_placed (map given body)) (line + 1) in
-    rolled_same (Repeat line count one.0) _ (sym (rolls-Repeat line count one.0)) ∙ ap (stmt.Repeat 0 count) (turn_same With given (λ b. b.1) body (line + 1))
+    rolled_same (Repeat line count one.0) _ (sym (rolls-Repeat line count one.0)) ∙ ap (stmt.Repeat 0 count)
+    (turn_same With given (λ b. b.1) body (line + 1))
 level_same (Fork old region handle body) line =
     let one = in_turn (map stmt_placed (map given body)) (line + 1) in
-    rolled_same (Fork line region handle one.0) _ (sym (rolls-Fork line region handle one.0)) ∙ ap (stmt.Fork 0 region handle) (turn_same With given (λ b. b.1) body (line + 1))
+    rolled_same (Fork line region handle one.0) _ (sym (rolls-Fork line region handle one.0)) ∙ ap (stmt.Fork 0 region handle)
+    (turn_same With given (λ b. b.1) body (line + 1))
 level_same (Join old handle) line = rolled_same (Join line handle) _ (sym (rolls-Join line handle))
 level_same (JoinStep old handle) line = rolled_same (JoinStep line handle) _ (sym (rolls-JoinStep line handle))
 level_same (Driver old kind port values) line = rolled_same (Driver line kind port values) _ (sym (rolls-Driver line kind port values))
@@ -90,15 +95,19 @@ abbrev IsPrinted : TestStmt → Type 0
 IsPrinted x = (i : List ℕ) → stmt_text (stmt_unlined x) i ≡ stmt_text x i
 
 module _ (B : Type 0) (to : B → TestStmt) (same : (b : B) → IsPrinted (to b)) where
-  same_block : (bs : List B) (i : List ℕ) → block_text (map stmt_text (map stmt_unlined (map to bs))) i ≡ block_text (map stmt_text (map to bs)) i
+  same_block : (bs : List B) (i : List ℕ) → block_text (map stmt_text (map stmt_unlined (map to bs))) i ≡ block_text
+      (map stmt_text (map to bs)) i
   same_block [] i = refl
-  same_block (b ∷ bs) i = ap (λ z. z ++ block_text (map stmt_text (map stmt_unlined (map to bs))) i) (same b i) ∙ ap (λ z. stmt_text (to b) i ++ z) (same_block bs i)
+  same_block (b ∷ bs) i = ap (λ z. z ++ block_text (map stmt_text (map stmt_unlined (map to bs))) i) (same b i)
+      ∙ ap (λ z. stmt_text (to b) i ++ z) (same_block bs i)
 
-  same_else : (bs : List B) (i : List ℕ) → printed.else_text (map stmt_text (map stmt_unlined (map to bs))) i ≡ printed.else_text (map stmt_text (map to bs)) i
+  same_else : (bs : List B) (i : List ℕ) → printed.else_text (map stmt_text (map stmt_unlined (map to bs))) i ≡ printed.else_text
+      (map stmt_text (map to bs)) i
   same_else [] i = refl
   same_else (b ∷ bs) i = ap (λ z. printed.turns i ++ z) (same_block (b ∷ bs) (deeper i))
 
-  same_braced : (words : List ℕ) (bs : List B) (i : List ℕ) → printed.braced i words (map stmt_text (map stmt_unlined (map to bs))) ≡ printed.braced i words (map stmt_text (map to bs))
+  same_braced : (words : List ℕ) (bs : List B) (i : List ℕ) → printed.braced i words (map stmt_text (map stmt_unlined (map to bs)))
+      ≡ printed.braced i words (map stmt_text (map to bs))
   same_braced words bs i = ap (λ z. printed.opens i words ++ (z ++ printed.closes i)) (same_block bs (deeper i))
 
 abbrev WithPrinted : Type 0
@@ -107,10 +116,12 @@ WithPrinted = (x : TestStmt) × IsPrinted x
 abbrev told : WithPrinted → TestStmt
 told w = w.0
 
-rolled_text : (x : TestStmt-F TestStmt) (y : TestStmt) (i : List ℕ) → y ≡ roll-TestStmt x → stmt_text y i ≡ stmt_level (map-TestStmt TestStmt (List ℕ → List ℕ) stmt_text x) i
+rolled_text : (x : TestStmt-F TestStmt) (y : TestStmt) (i : List ℕ) → y ≡ roll-TestStmt x → stmt_text y i ≡ stmt_level
+    (map-TestStmt TestStmt (List ℕ → List ℕ) stmt_text x) i
 rolled_text x y i e = ap (λ z. stmt_text z i) e ∙ ap (λ f. f i) (fold-roll-TestStmt (List ℕ → List ℕ) stmt_level x)
 
-level_printed : (x : TestStmt-F WithPrinted) (i : List ℕ) → stmt_text (unlined_level (map-TestStmt TestStmt TestStmt stmt_unlined (map-TestStmt WithPrinted TestStmt told x))) i
+level_printed : (x : TestStmt-F WithPrinted) (i : List ℕ)
+    → stmt_text (unlined_level (map-TestStmt TestStmt TestStmt stmt_unlined (map-TestStmt WithPrinted TestStmt told x))) i
     ≡ stmt_level (map-TestStmt TestStmt (List ℕ → List ℕ) stmt_text (map-TestStmt WithPrinted TestStmt told x)) i
 level_printed (Poke old port value) i = rolled_text (Poke 0 port value) _ i (sym (rolls-Poke 0 port value))
 level_printed (Peek old port into) i = rolled_text (Peek 0 port into) _ i (sym (rolls-Peek 0 port into))
@@ -123,17 +134,22 @@ level_printed (If old cond taken other) i =
     let two = map stmt_unlined (map told other) in
     let head = printed.opens i (codes "if " ++ expr_text cond) in
     rolled_text (If 0 cond one two) _ i (sym (rolls-If 0 cond one two))
-    ∙ ap (λ z. head ++ (z ++ (printed.else_text (map stmt_text two) i ++ printed.closes i))) (same_block WithPrinted told (λ b. b.1) taken (deeper i))
-    ∙ ap (λ z. head ++ (block_text (map stmt_text (map told taken)) (deeper i) ++ (z ++ printed.closes i))) (same_else WithPrinted told (λ b. b.1) other i)
+    ∙ ap (λ z. head ++ (z ++ (printed.else_text (map stmt_text two) i ++ printed.closes i)))
+    (same_block WithPrinted told (λ b. b.1) taken (deeper i))
+    ∙ ap (λ z. head ++ (block_text (map stmt_text (map told taken)) (deeper i) ++ (z ++ printed.closes i)))
+    (same_else WithPrinted told (λ b. b.1) other i)
 level_printed (While old cond body) i =
     let one = map stmt_unlined (map told body) in
-    rolled_text (While 0 cond one) _ i (sym (rolls-While 0 cond one)) ∙ same_braced WithPrinted told (λ b. b.1) (codes "while " ++ expr_text cond) body i
+    rolled_text (While 0 cond one) _ i (sym (rolls-While 0 cond one)) ∙ same_braced WithPrinted told (λ b. b.1)
+    (codes "while " ++ expr_text cond) body i
 level_printed (Repeat old count body) i =
     let one = map stmt_unlined (map told body) in
-    rolled_text (Repeat 0 count one) _ i (sym (rolls-Repeat 0 count one)) ∙ same_braced WithPrinted told (λ b. b.1) (codes "repeat " ++ expr_text count) body i
+    rolled_text (Repeat 0 count one) _ i (sym (rolls-Repeat 0 count one)) ∙ same_braced WithPrinted told (λ b. b.1)
+    (codes "repeat " ++ expr_text count) body i
 level_printed (Fork old region handle body) i =
     let one = map stmt_unlined (map told body) in
-    rolled_text (Fork 0 region handle one) _ i (sym (rolls-Fork 0 region handle one)) ∙ same_braced WithPrinted told (λ b. b.1) (printed.fork_words region handle) body i
+    rolled_text (Fork 0 region handle one) _ i (sym (rolls-Fork 0 region handle one)) ∙ same_braced WithPrinted told (λ b. b.1)
+    (printed.fork_words region handle) body i
 level_printed (Join old handle) i = rolled_text (Join 0 handle) _ i (sym (rolls-Join 0 handle))
 level_printed (JoinStep old handle) i = rolled_text (JoinStep 0 handle) _ i (sym (rolls-JoinStep 0 handle))
 level_printed (Driver old kind port values) i = rolled_text (Driver 0 kind port values) _ i (sym (rolls-Driver 0 kind port values))
@@ -146,7 +162,8 @@ stmt_printed = ind-TestStmt IsPrinted (λ x y is. subst (λ z. IsPrinted (roll-T
 
 body_printed : (xs : List TestStmt) (i : List ℕ) → block_text (map stmt_text (map stmt_unlined xs)) i ≡ block_text (map stmt_text xs) i
 body_printed [] i = refl
-body_printed (x ∷ xs) i = ap (λ z. z ++ block_text (map stmt_text (map stmt_unlined xs)) i) (stmt_printed x i) ∙ ap (λ z. stmt_text x i ++ z) (body_printed xs i)
+body_printed (x ∷ xs) i = ap (λ z. z ++ block_text (map stmt_text (map stmt_unlined xs)) i) (stmt_printed x i)
+    ∙ ap (λ z. stmt_text x i ++ z) (body_printed xs i)
 
 unlined_printed : (t : TestText) → printed_test (unlined t) ≡ printed_test t
 unfolding printed_test

@@ -38,11 +38,13 @@ use Rattle.tl_round.proofs.Rows.{RowSaid, keeps_poke, keeps_expect, keeps_let, k
 module _ (block inner : Body) (hb : Keeps (BodySaid block) block) (hi : Keeps (BodySaid inner) inner) (l : ℕ) where
   keeps_while : Keeps (RowSaid block inner w.While) (while_row expr_limits block l)
   unfolding while_row
-  keeps_while = keeps_both Good _ _ _ block keeps_good (λ c g. keeps_to (BodySaid block) _ _ (λ body h. while_said block inner l c body g h) hb)
+  keeps_while = keeps_both Good _ _ _ block keeps_good
+      (λ c g. keeps_to (BodySaid block) _ _ (λ body h. while_said block inner l c body g h) hb)
 
   keeps_repeat : Keeps (RowSaid block inner w.Repeat) (repeat_row expr_limits block l)
   unfolding repeat_row
-  keeps_repeat = keeps_both Good _ _ _ block keeps_good (λ c g. keeps_to (BodySaid block) _ _ (λ body h. repeat_said block inner l c body g h) hb)
+  keeps_repeat = keeps_both Good _ _ _ block keeps_good
+      (λ c g. keeps_to (BodySaid block) _ _ (λ body h. repeat_said block inner l c body g h) hb)
 
   other_said : (body : List TestStmt) → BodySaid block body → OtherSaid block body
   other_said [] h = tt
@@ -50,7 +52,8 @@ module _ (block inner : Body) (hb : Keeps (BodySaid block) block) (hi : Keeps (B
 
   keeps_else : Keeps (OtherSaid block) (else_block block)
   unfolding else_block
-  keeps_else = keeps_either (OtherSaid block) _ _ _ (keeps_second (OtherSaid block) (keyword (codes "else")) block (keeps_to (BodySaid block) _ _ other_said hb)) (keeps_nothing (OtherSaid block) [] tt)
+  keeps_else = keeps_either (OtherSaid block) _ _ _ (keeps_second (OtherSaid block) (keyword (codes "else")) block
+      (keeps_to (BodySaid block) _ _ other_said hb)) (keeps_nothing (OtherSaid block) [] tt)
 
   keeps_if : Keeps (RowSaid block inner w.If) (if_row expr_limits block l)
   unfolding if_row
@@ -58,14 +61,18 @@ module _ (block inner : Body) (hb : Keeps (BodySaid block) block) (hi : Keeps (B
       (λ c g. keeps_both (BodySaid block) (λ x. RowSaid block inner w.If (stmt.If l c x.0 x.1)) pair block (else_block block) hb
       (λ taken h. keeps_to (OtherSaid block) _ _ (λ other k. if_said block inner l c taken other g h k) keeps_else))
 
-  keeps_forked : (region : Option Region) (n : List ℕ) → is_word_text n ≡ true → Keeps (RowSaid block inner w.Fork) (forked inner l region n)
+  keeps_forked : (region : Option Region) (n : List ℕ) → is_word_text n ≡ true → Keeps (RowSaid block inner w.Fork)
+      (forked inner l region n)
   unfolding forked
-  keeps_forked region n h = keeps_both (BodySaid inner) _ _ inner (nothing tt) hi (λ body k. keeps_to Any _ _ (λ u t. fork_said block inner l region n body h k) (any (nothing tt)))
+  keeps_forked region n h = keeps_both (BodySaid inner) _ _ inner (nothing tt) hi
+      (λ body k. keeps_to Any _ _ (λ u t. fork_said block inner l region n body h k) (any (nothing tt)))
 
-  keeps_fork_in : (region : Option Region) (n : List ℕ) → is_word_text n ≡ true → Keeps (RowSaid block inner w.Fork) (fork_in inner l region n)
+  keeps_fork_in : (region : Option Region) (n : List ℕ) → is_word_text n ≡ true → Keeps (RowSaid block inner w.Fork)
+      (fork_in inner l region n)
   unfolding fork_in
   keeps_fork_in None n h = keeps_forked None n h
-  keeps_fork_in (Some region) n h = keeps_either _ is_name _ _ (keeps_after (λ m. is_word_text m ≡ true) _ name _ keeps_name (λ m k. keeps_forked (Some region) m k)) (keeps_forked None n h)
+  keeps_fork_in (Some region) n h = keeps_either _ is_name _ _ (keeps_after (λ m. is_word_text m ≡ true) _ name _ keeps_name
+      (λ m k. keeps_forked (Some region) m k)) (keeps_forked None n h)
 
   keeps_fork : Keeps (RowSaid block inner w.Fork) (fork_row inner l)
   unfolding fork_row
@@ -103,7 +110,8 @@ no_fork line (Some word) h e = by (is_forking word) refl e
     by true is e = absurd cc
     by false is e = let p : (line, word) ≡ h = cc in subst (λ (z : ℕ × StmtWord). is_forking z.1 ≡ false) p is
 
-begun : (f : ℕ) (x : Item) (h : ℕ × StmtWord) → with_line (too_many_forks f x) x.place.line (token_stmt_word x.token) ≡ Some h → barred f h.1 ≡ false
+begun : (f : ℕ) (x : Item) (h : ℕ × StmtWord) → with_line (too_many_forks f x) x.place.line (token_stmt_word x.token) ≡ Some h
+    → barred f h.1 ≡ false
 begun zero x h e = no_fork x.place.line (token_stmt_word x.token) h e
 begun (suc f) x h e = refl
 
@@ -155,11 +163,13 @@ a_word (w.Driver kind.ExpectDequeueNow) = refl
 a_word (w.Driver kind.ExpectDequeueSeq) = refl
 a_word (w.Driver kind.ExpectInvalid) = refl
 
-begins_again : (f line : ℕ) (word : StmtWord) (x : Item) → token_stmt_word x.token ≡ Some word → barred f word ≡ false → with_line (too_many_forks f x) line (token_stmt_word x.token) ≡ Some (line, word)
+begins_again : (f line : ℕ) (word : StmtWord) (x : Item) → token_stmt_word x.token ≡ Some word → barred f word ≡ false
+    → with_line (too_many_forks f x) line (token_stmt_word x.token) ≡ Some (line, word)
 begins_again zero line word x e bar = ap (λ o. with_line (some_forking o) line o) e ∙ ap (λ b. with_line b line (Some word)) bar
 begins_again (suc f) line word x e bar = ap (λ o. with_line false line o) e
 
-first_says : (f : ℕ) (word : StmtWord) (p : Place) → barred f word ≡ false → Says (first_word f) true (word_name word) (p.line, word) p p.line
+first_says : (f : ℕ) (word : StmtWord) (p : Place) → barred f word ≡ false → Says (first_word f) true (word_name word)
+    (p.line, word) p p.line
 unfolding first_word one_by
 first_says f word p bar =
     let x : Item = record { place = p; token = token.Word (word_name word) } in
@@ -171,35 +181,44 @@ record StmtSaid (P : Part TestStmt) (x : TestStmt) : Type 0 where
   said : (i : List ℕ) → Blank i → (p : Place) → Says P false (stmt_text x i) (stmt_placed x p.line).0 p (stmt_placed x p.line).1
 
 module _ (block : ℕ → Body) (f : ℕ) where
-  row_at : (word : StmtWord) (x : TestStmt) (r : RowSaid (block f) (fork_block block f) word x) (i : List ℕ) → Blank i → (p : Place) (line : ℕ) → p.line ≡ line
-      → Says (row expr_limits (block f) (fork_block block f) line word) false (32 ∷ r.behind i) (stmt_placed x line).0 p (stmt_placed x line).1
-  row_at word x r i blank p line e = subst (λ (n : ℕ). Says (row expr_limits (block f) (fork_block block f) n word) false (32 ∷ r.behind i) (stmt_placed x n).0 p (stmt_placed x n).1) e (r.again i blank p)
+  row_at : (word : StmtWord) (x : TestStmt) (r : RowSaid (block f) (fork_block block f) word x) (i : List ℕ) → Blank i
+      → (p : Place) (line : ℕ) → p.line ≡ line
+      → Says (row expr_limits (block f) (fork_block block f) line word) false (32 ∷ r.behind i) (stmt_placed x line).0 p
+      (stmt_placed x line).1
+  row_at word x r i blank p line e = subst (λ (n : ℕ). Says (row expr_limits (block f) (fork_block block f) n word) false (32 ∷ r.behind i)
+      (stmt_placed x n).0 p (stmt_placed x n).1) e (r.again i blank p)
 
-  stmt_said : (word : StmtWord) (x : TestStmt) → barred f word ≡ false → RowSaid (block f) (fork_block block f) word x → StmtSaid (stmt_in expr_limits block f) x
+  stmt_said : (word : StmtWord) (x : TestStmt) → barred f word ≡ false → RowSaid (block f) (fork_block block f) word x
+      → StmtSaid (stmt_in expr_limits block f) x
   unfolding stmt_in
   stmt_said word x bar r = record {
     said = λ i blank p. says_text (sym (r.printed i)) (says_behind (blank p) (λ q e. subst
-        (λ (n : ℕ). Says (after (first_word f) (λ (h : ℕ × StmtWord). row expr_limits (block f) (fork_block block f) h.0 h.1)) false (word_name word ++ (32 ∷ r.behind i)) (stmt_placed x n).0 q (stmt_placed x n).1) e
-        (says_after (λ (h : ℕ × StmtWord). row expr_limits (block f) (fork_block block f) h.0 h.1) (first_says f word q bar) (λ t k. row_at word x r i blank t q.line k) (λ rest z. refl))));
+        (λ (n : ℕ). Says (after (first_word f) (λ (h : ℕ × StmtWord). row expr_limits (block f) (fork_block block f) h.0 h.1)) false
+        (word_name word ++ (32 ∷ r.behind i)) (stmt_placed x n).0 q (stmt_placed x n).1) e
+        (says_after (λ (h : ℕ × StmtWord). row expr_limits (block f) (fork_block block f) h.0 h.1) (first_says f word q bar)
+        (λ t k. row_at word x r i blank t q.line k) (λ rest z. refl))));
   }
 
   module _ (hb : Keeps (BodySaid (block f)) (block f)) (hi : Keeps (BodySaid (fork_block block f)) (fork_block block f)) where
     keeps_stmt : Keeps (StmtSaid (stmt_in expr_limits block f)) (stmt_in expr_limits block f)
     unfolding stmt_in
     keeps_stmt = keeps_after (λ h. barred f h.1 ≡ false) (StmtSaid (stmt_in expr_limits block f)) (first_word f) _ (keeps_first_word f)
-        (λ h bar. keeps_to (RowSaid (block f) (fork_block block f) h.1) _ _ (λ x r. stmt_said h.1 x bar r) (keeps_row (block f) (fork_block block f) hb hi h.0 h.1))
+        (λ h bar. keeps_to (RowSaid (block f) (fork_block block f) h.1) _ _ (λ x r. stmt_said h.1 x bar r)
+        (keeps_row (block f) (fork_block block f) hb hi h.0 h.1))
 
     keeps_stmts : Keeps (Each (StmtSaid (stmt_in expr_limits block f))) (stmts_in expr_limits block f)
     unfolding stmts_in
     keeps_stmts = keeps_many (StmtSaid (stmt_in expr_limits block f)) _ keeps_stmt begins_stmt
 
-  stmts_said : (body : List TestStmt) → Each (StmtSaid (stmt_in expr_limits block f)) body → (i : List ℕ) → Blank i → (p : Place) (line : ℕ) → p.line ≡ line
+  stmts_said : (body : List TestStmt) → Each (StmtSaid (stmt_in expr_limits block f)) body → (i : List ℕ) → Blank i → (p : Place) (line : ℕ)
+      → p.line ≡ line
       → Says (stmts_in expr_limits block f) false (lines_of body i) (placed_from body line).0 p (placed_from body line).1
   unfolding stmts_in
   stmts_said [] h i blank p line e = says_on (says_none (stmt_in expr_limits block f) begins_stmt p) e
   stmts_said (x ∷ more) h i blank p line e =
       let here : Says (stmt_in expr_limits block f) false (stmt_text x i) (stmt_placed x line).0 p (stmt_placed x line).1 =
-      subst (λ (n : ℕ). Says (stmt_in expr_limits block f) false (stmt_text x i) (stmt_placed x n).0 p (stmt_placed x n).1) e (h.0.said i blank p) in
+      subst (λ (n : ℕ). Says (stmt_in expr_limits block f) false (stmt_text x i) (stmt_placed x n).0 p (stmt_placed x n).1) e
+      (h.0.said i blank p) in
       says_cons begins_stmt here (λ q k. stmts_said more h.1 i blank q (stmt_placed x line).1 k) (λ rest z. tt)
 
 -- ---- blocks
@@ -215,15 +234,18 @@ deeper_blank i blank p =
     chunk_on (chunk_both false false i (codes "  ") p [] [] p.line one.end.line one (two_spaces one.end) (λ rest e. tt)) one.on
 
 module _ (b f : ℕ) where
-  body_said : (body : List TestStmt) → Each (StmtSaid (stmt_in expr_limits (block_within expr_limits b) f)) body → BodySaid (block_within expr_limits (suc b) f) body
+  body_said : (body : List TestStmt) → Each (StmtSaid (stmt_in expr_limits (block_within expr_limits b) f)) body
+      → BodySaid (block_within expr_limits (suc b) f) body
   unfolding block_within
   body_said body h = record {
     said = λ i blank p. says_both second (open_brace_line p) (λ q e. says_behind (feed_chunk q)
-        (λ r k. says_both first (stmts_said (block_within expr_limits b) f body h (deeper i) (deeper_blank i blank) r (p.line + 1) (k ∙ ap (λ n. n + 1) e))
+        (λ r k. says_both first (stmts_said (block_within expr_limits b) f body h (deeper i) (deeper_blank i blank) r (p.line + 1)
+        (k ∙ ap (λ n. n + 1) e))
         (λ t m. says_behind (blank t) (λ v n. says_on (close_brace_line v) (n ∙ m))) (λ rest z. tt))) (λ rest z. tt);
   }
 
-keeps_fork_block : (block : ℕ → Body) → ((f : ℕ) → Keeps (BodySaid (block f)) (block f)) → (f : ℕ) → Keeps (BodySaid (fork_block block f)) (fork_block block f)
+keeps_fork_block : (block : ℕ → Body) → ((f : ℕ) → Keeps (BodySaid (block f)) (block f)) → (f : ℕ) → Keeps (BodySaid (fork_block block f))
+    (fork_block block f)
 unfolding fork_block
 keeps_fork_block block h zero = keeps_stop _ TooDeep
 keeps_fork_block block h (suc f) = h f
@@ -233,25 +255,30 @@ unfolding block_within
 keeps_block zero f = keeps_second (BodySaid (block_within expr_limits zero f)) no_brace (stop TooDeep) (keeps_stop _ TooDeep)
 keeps_block (suc b) f = keeps_second _ (mark s.OpenBrace) _ (keeps_first _ _ (mark s.CloseBrace)
     (keeps_to (Each (StmtSaid (stmt_in expr_limits (block_within expr_limits b) f))) _ _ (λ body h. body_said b f body h)
-    (keeps_stmts (block_within expr_limits b) f (keeps_block b f) (keeps_fork_block (block_within expr_limits b) (λ g. keeps_block b g) f))))
+    (keeps_stmts (block_within expr_limits b) f (keeps_block b f)
+    (keeps_fork_block (block_within expr_limits b) (λ g. keeps_block b g) f))))
 
 -- ---- whole tests
 
 record TestSaid (x : TestText) : Type 0 where
-  said : Says (stmts_in expr_limits (block_within expr_limits 32) 8) false (lines_of x.body []) (placed_from x.body 1).0 text_start (placed_from x.body 1).1
+  said : Says (stmts_in expr_limits (block_within expr_limits 32) 8) false (lines_of x.body []) (placed_from x.body 1).0 text_start
+      (placed_from x.body 1).1
 
 keeps_test : Keeps TestSaid test
 unfolding test_within
 keeps_test = keeps_both (Each (StmtSaid (stmt_in expr_limits (block_within expr_limits 32) 8))) TestSaid _ _ (nothing tt)
-    (keeps_stmts (block_within expr_limits 32) 8 (keeps_block 32 8) (keeps_fork_block (block_within expr_limits 32) (λ g. keeps_block 32 g) 8))
-    (λ body h. keeps_to Any _ _ (λ u t. record { said = stmts_said (block_within expr_limits 32) 8 body h [] nothing_chunk text_start 1 refl }) (any (nothing tt)))
+    (keeps_stmts (block_within expr_limits 32) 8 (keeps_block 32 8)
+    (keeps_fork_block (block_within expr_limits 32) (λ g. keeps_block 32 g) 8))
+    (λ body h. keeps_to Any _ _
+    (λ u t. record { said = stmts_said (block_within expr_limits 32) 8 body h [] nothing_chunk text_start 1 refl }) (any (nothing tt)))
 
 said_spelled : (x : TestText) → TestSaid x → spells_test (printed_test x) (relined x)
 unfolding spells_test printed_test relined test_within both nothing items_of items_from
 said_spelled x h =
     let r = h.said in
     let cut : items_from 0 text_start (lines_of x.body [] ++ []) ≡ r.items ++ [] = r.chunk.cut [] tt in
-    let is : items_from 0 text_start (lines_of x.body []) ≡ r.items ++ [] = ap (items_from 0 text_start) (sym (append-nil (lines_of x.body []))) ∙ cut in
+    let is : items_from 0 text_start (lines_of x.body []) ≡ r.items ++ [] = ap (items_from 0 text_start)
+    (sym (append-nil (lines_of x.body []))) ∙ cut in
     (r.items, [], (placed_from x.body 1).0, tt, is, r.spelled, (refl, refl), refl)
 
 pub spelled_again : (text : List ℕ) (x : TestText) → spells_test text x → spells_test (printed_test x) (relined x)

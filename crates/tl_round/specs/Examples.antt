@@ -39,7 +39,8 @@ printed_queue =
     ∷ codes "fork c {" ∷ codes "  expectDequeueSeq io.deq [ 5 , 6 , 7 ];" ∷ codes "}" ∷ codes "join p;" ∷ codes "join c;" ∷ [])
 
 abbrev pub relined_queue : TestText
-relined_queue = test (ResetFor 1 1 ∷ thread 2 3 (codes "p") EnqueueSeq (codes "io.enq") ∷ thread 5 6 (codes "c") ExpectDequeueSeq (codes "io.deq")
+relined_queue = test (ResetFor 1 1 ∷ thread 2 3 (codes "p") EnqueueSeq (codes "io.enq") ∷ thread 5 6 (codes "c") ExpectDequeueSeq
+    (codes "io.deq")
     ∷ Join 8 (codes "p") ∷ Join 9 (codes "c") ∷ [])
 
 -- `if a`, a step, and the block of its `else`

@@ -50,7 +50,8 @@ fork_placed : (old : ℕ) (region : Option Region) (handle : List ℕ) (body : L
 fork_placed old region handle body line = ap (λ f. f line) (fold-Fork (Placed TestStmt) placed_level old region handle body)
 
 if_placed : (old : ℕ) (c : TestExpr) (taken other : List TestStmt) (line : ℕ)
-    → stmt_placed (stmt.If old c taken other) line ≡ if_at (stmt.If line c) (in_turn (map stmt_placed taken) (line + 1)) (behind_else (map stmt_placed other))
+    → stmt_placed (stmt.If old c taken other) line ≡ if_at (stmt.If line c) (in_turn (map stmt_placed taken) (line + 1))
+    (behind_else (map stmt_placed other))
 if_placed old c taken other line = ap (λ f. f line) (fold-If (Placed TestStmt) placed_level old c taken other)
 
 new_lines : relined queue ≡ relined_queue
@@ -74,5 +75,6 @@ returns c = record {
   others = λ e.
       let one : printed_test (record { body = stmt.Step 1 1 ∷ [] }) ≡ codes "step 1;" ++ 10 ∷ [] = simp step_text refl in
       let two : printed_test (record { body = stmt.Step 1 2 ∷ [] }) ≡ codes "step 2;" ++ 10 ∷ [] = simp step_text refl in
-      absurd (let bad : true ≡ false = ap (λ z. bytes_eq z (codes "step 1;" ++ 10 ∷ [])) (sym one ∙ same_printed (record { body = stmt.Step 1 1 ∷ [] }) (record { body = stmt.Step 1 2 ∷ [] }) e ∙ two) in cc);
+      absurd (let bad : true ≡ false = ap (λ z. bytes_eq z (codes "step 1;" ++ 10 ∷ []))
+      (sym one ∙ same_printed (record { body = stmt.Step 1 1 ∷ [] }) (record { body = stmt.Step 1 2 ∷ [] }) e ∙ two) in cc);
 }
