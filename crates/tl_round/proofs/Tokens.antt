@@ -221,22 +221,31 @@ below_token n h = let e : nat_lt n (2 ^ 128) ≡ true = grind (arith, nat_tests)
 abbrev number_of : List ℕ → ℕ → Piece
 number_of t len = record { token = Some (number_token (numeral_value (take len t))); len = len }
 
+-- a numeral at the head, of so many bytes
+number_cut : (t numeral : List ℕ) (n len : ℕ) → number_len t ≡ len → take len t ≡ numeral → numeral_value numeral ≡ n → n < 2 ^ 128
+    → number_of t (number_len t) ≡ record { token = Some (token.Number n); len = len }
+number_cut t numeral n len size front value small =
+    ap (number_of t) size
+    ∙ ap (λ (z : List ℕ). record { token = Some (number_token (numeral_value z)); len = len }) front
+    ∙ ap (λ m. record { token = Some (number_token m); len = len }) value
+    ∙ ap (λ k. record { token = Some k; len = len }) (below_token n small)
+
 digits_piece : (ds rest : List ℕ) (n : ℕ) → 1 ≤ length ds → AllDigits 10 ds → numeral_value ds ≡ n → n < 2 ^ 128 → Before true rest
     → piece (ds ++ rest) ≡ record { token = Some (token.Number n); len = length ds }
 unfolding piece
 digits_piece [] rest n k h v l q = absurd (omega (arith, k))
 digits_piece (d ∷ ds) rest n k h v l q =
     let facts = digit_begins d h.0 in
-    let f1 = facts.no_space in let f2 = facts.no_tab in let f3 = facts.no_feed_here in let f4 = facts.no_return in
+    let f1 = facts.no_space in
+    let f2 = facts.no_tab in
+    let f3 = facts.no_feed_here in
+    let f4 = facts.no_return in
     let f5 = facts.no_slash in
-    let f6 = facts.no_word in let f7 = facts.is in
+    let f6 = facts.no_word in
+    let f7 = facts.is in
     let size = number_len_is (d ∷ ds) rest k h q in
-    let front = take-append_seam (d ∷ ds) rest in
-    let is : piece (d ∷ ds ++ rest) ≡ number_of (d ∷ ds ++ rest) (number_len (d ∷ ds ++ rest)) = rw (f1, f2, f3, f4, f5, f6, f7) refl in
-    is ∙ ap (number_of (d ∷ ds ++ rest)) size
-    ∙ ap (λ (z : List ℕ). record { token = Some (number_token (numeral_value z)); len = length (d ∷ ds) }) front
-    ∙ ap (λ m. record { token = Some (number_token m); len = length (d ∷ ds) }) v
-    ∙ ap (λ t. record { token = Some t; len = length (d ∷ ds) }) (below_token n l)
+    let cut = number_cut (d ∷ ds ++ rest) (d ∷ ds) n (length (d ∷ ds)) size (take-append_seam (d ∷ ds) rest) v l in
+    rw (f1, f2, f3, f4, f5, f6, f7) cut
 
 pub number_line_as : {A : Type 0} (P : Part A) (n : ℕ) (a : A) → n < 2 ^ 128
     → ((p : Place) → P.spells (record { place = p; token = token.Number n } ∷ []) a) → Line P true (decimal n) a
