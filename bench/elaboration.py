@@ -5,9 +5,9 @@
 
 Each shape is made at a quarter, a half and the whole of what the limits and a text of 1 MiB allow: 65,000 signals as wires
 and nodes of aggregates; 24,000 fields of one bundle, each connected; 4,000,000 parts, as connects of a vector of bundles
-and as instances of an empty module; a chain of 20,000 modules, the main module first in the text or last; and 60,000
-signals without written widths in a chain. COMMAND is
-the command that takes the circuit's file, `check` if not given. PROGRAM is the proved program,
+and as instances of an empty module; a chain of 20,000 modules, the main module first in the text or last; 60,000
+signals without written widths in a chain; 20,000 uses of an instance's ports, of the fields of a node and of those of a
+bundle inside another; and 28,000 connects of a bundle of 28,000 fields, which pass the limit of parts. COMMAND is the command that takes the circuit's file, `check` if not given. PROGRAM is the proved program,
 crates/threadbench/out/threadbench if not given. What a run of the smallest circuit costs is measured too and taken off.
 Growth is the ratio of what one unit costs, from one size to the next: it is linear where that is near 1.
 """
@@ -69,6 +69,33 @@ def unwidthed_nodes(count):
     return text + '  module C :\n' + ''.join(f'    {line}\n' for line in lines)
 
 
+def fields_of_bundle(count):
+    return ', '.join(f'f{k} : UInt<1>' for k in range(count))
+
+
+def port_uses(count):
+    """An instance with many ports, each connected."""
+    lines = ['input a : UInt<1>', 'inst q of C'] + [f'connect q.p{k}, a' for k in range(count)]
+    return circuit('I', lines) + '  module C :\n' + ''.join(f'    input p{k} : UInt<1>\n' for k in range(count))
+
+
+def node_uses(count):
+    """A node of a bundle with many fields, each used."""
+    lines = ['input a : UInt<1>', f'wire w : {{ {fields_of_bundle(count)} }}', 'invalidate w', 'node n = w', 'wire x : UInt<1>']
+    return circuit('N', lines + [f'connect x, n.f{k}' for k in range(count)])
+
+
+def nested_uses(count):
+    """A bundle with many fields in another bundle, each connected."""
+    lines = ['input a : UInt<1>', f'wire w : {{ i : {{ {fields_of_bundle(count)} }} }}']
+    return circuit('D', lines + [f'connect w.i.f{k}, a' for k in range(count)])
+
+
+def wide_connects(count):
+    """A wide bundle connected whole again and again, which is refused for too many parts."""
+    return circuit('R', [f'wire b : {{ {fields_of_bundle(count)} }}'] + ['connect b, b'] * count)
+
+
 SHAPES = (
     ('wires and nodes', 'signals', 65_000, wires),
     ('one wide bundle', 'signals', 24_000, wide_bundle),
@@ -77,6 +104,10 @@ SHAPES = (
     ('chain, main first', 'modules', 20_000, lambda count: chain(count, True)),
     ('chain, main last', 'modules', 20_000, lambda count: chain(count, False)),
     ('nodes in a chain', 'signals', 60_000, unwidthed_nodes),
+    ('uses of ports', 'ports', 20_000, port_uses),
+    ('uses of a node', 'fields', 20_000, node_uses),
+    ('uses inside', 'fields', 20_000, nested_uses),
+    ('wide connects', 'connects', 28_000, wide_connects),
 )
 
 

@@ -20,7 +20,7 @@ use Rattle.net_design.specs.Settling as settling
 use Rattle.net_design.specs.Settling.{settled_at, settled_value, kept_after, registers_after}
 use Rattle.sim_plain.specs.Ready.{Run}
 use Rattle.bench_core.specs.Device.{DeviceValue, IsDevice, device_of, shown}
-use Rattle.bench_core.specs.World.{zeros, poked}
+use Rattle.bench_core.specs.World.{zeros, poked, after_edges}
 use Rattle.net_design.proofs.Showing.{At, shown_value, shown_edge, edge_below}
 
 -- the signals of the circuit are among those of its net
@@ -216,3 +216,13 @@ edge_shown d r r2 v h e s =
     ap (λ (xs : List ℕ). let u : DeviceValue = record { elab = d.elab; inputs = shown d.elab r2.inputs; registers = xs } in u) after
     ∙ ap (λ (xs : List ℕ). let u : DeviceValue = record { elab = d.elab; inputs = shown d.elab xs; registers = registers_after d.elab (shown d.elab r.inputs) (shown d.elab r.registers) } in u) s.inputs
     ∙ ap (λ (u : DeviceValue). let w : DeviceValue = record u { registers = registers_after u.elab u.inputs u.registers } in w) e
+
+-- one more of several edges
+pub one_edge_more : (v w x : DeviceValue) (n : ℕ) → w ≡ record v { registers = after_edges v.elab v.inputs n v.registers }
+    → x ≡ record w { registers = registers_after w.elab w.inputs w.registers }
+    → x ≡ record v { registers = after_edges v.elab v.inputs (n + 1) v.registers }
+one_edge_more v w x n so_far edge =
+    let next : suc n ≡ n + 1 = omega arith in
+    edge
+    ∙ ap (λ (u : DeviceValue). let y : DeviceValue = record u { registers = registers_after u.elab u.inputs u.registers } in y) so_far
+    ∙ ap (λ (k : ℕ). let y : DeviceValue = record v { registers = after_edges v.elab v.inputs k v.registers } in y) next

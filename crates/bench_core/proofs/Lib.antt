@@ -1,7 +1,7 @@
 pub mod Checked
 pub mod Computed
 pub mod Devices
-pub mod Fitting
+pub mod Kept
 pub mod Outcomes
 pub mod Running
 pub mod Small

@@ -1,44 +1,74 @@
--- What a test does, by the circuit's table of ports.
-use Rattle.std.specs.Prelude.{◌≡◌, ℕ, ◌-◌, ◌<◌, ◌^◌, Bool, true, ◌&&◌, nat_lt, if◌then◌else◌, List, [], ◌∷◌, length, Option, Some, None, option_map, option_and_then, ⊤}
+-- What a test in the first form does, by a circuit's table of ports.
+use Rattle.std.specs.Prelude.{◌≡◌, ℕ, ◌<◌, Bool, true, false, List, [], ◌∷◌, length, Option, Some, None, is_some, is_none, option_map, option_and_then, ⊤}
+use Rattle.std.specs.List.{list_all}
 use Rattle.net_core.specs.declared.ports.PortInfo.{PortInfo}
 use Rattle.net_core.specs.declared.tree.Elab.{Elab}
 use Rattle.net_core.specs.Ports.{port_named}
 use Rattle.net_core.specs.Signals.{info, is_input}
-use Rattle.tl_read.specs.declared.tree.TestStmt.{TestStmt}
-use Rattle.tl_read.specs.declared.tree.TestStmt.TheVariants.{Poke as PokeStmt, Peek as PeekStmt, Expect as ExpectStmt, Step as StepStmt}
+use Rattle.tl_ast.specs.declared.tree.TestExpr.{TestExpr}
+use Rattle.tl_ast.specs.declared.tree.TestExpr.TheViews.{out-TestExpr}
+use Rattle.tl_ast.specs.declared.tree.TestExpr.TheOpen.{TestExpr-F, Num}
+use Rattle.tl_ast.specs.declared.tree.TestStmt.{TestStmt}
+use Rattle.tl_ast.specs.declared.tree.TestStmt.TheViews.{out-TestStmt}
+use Rattle.tl_ast.specs.declared.tree.TestStmt.TheOpen as stmt
+use Rattle.tl_ast.specs.declared.tree.TestStmt.TheOpen.{TestStmt-F}
 use Rattle.bench_core.specs.declared.act.Act.{Act}
 use Rattle.bench_core.specs.declared.act.Act.TheVariants.{Poke, Peek, Expect, Arrive}
 
--- whether the port's type holds the number: an unsigned port of w bits holds the numbers below
--- 2 ^ w, a signed one those below 2 ^ (w - 1), and one of no bits holds 0
-abbrev pub holds : PortInfo → ℕ → Bool
-holds port n = nat_lt n (2 ^ (if port.signed then port.width - 1 else port.width))
+abbrev pub plain_level : TestExpr-F TestExpr → Option ℕ
+plain_level (Num n) = Some n
+plain_level _ = None
 
--- the act of a poke, where its port is an input and holds the number
-abbrev pub poke_of : ℕ → ℕ → PortInfo → Option Act
-poke_of line value port =
-    if port.input && holds port value then Some (Poke line port.signal value) else None
+-- the number, where the expression is a plain one
+abbrev pub plain : TestExpr → Option ℕ
+plain e = plain_level (out-TestExpr e)
 
--- the act of an expect, where its port holds the number
-abbrev pub expect_of : ℕ → ℕ → PortInfo → Option Act
-expect_of line value port = if holds port value then Some (Expect line port.signal value) else None
+-- a statement in the first form: a poke or an expect of a plain number, a peek that sets no variable, a step
 
--- the act of a statement, where its port is there and takes it
+abbrev pub is_first_form : {A : Type 0} → TestStmt-F A → Bool
+is_first_form (stmt.Poke line port value) = is_some (plain value)
+is_first_form (stmt.Peek line port into) = is_none into
+is_first_form (stmt.Expect line port value) = is_some (plain value)
+is_first_form (stmt.Step line count) = true
+is_first_form _ = false
+
+-- whether each of these statements is in the first form
+abbrev pub in_first_form : List TestStmt → Bool
+in_first_form body = list_all (λ s. is_first_form (out-TestStmt s)) body
+
+-- the act of a statement in the first form, where its port is there
+
+abbrev pub poke_of : ℕ → Option PortInfo → Option ℕ → Option Act
+poke_of line (Some port) (Some number) = Some (Poke line port.signal number)
+poke_of line _ _ = None
+
+abbrev pub peek_of : ℕ → Option PortInfo → Option (List ℕ) → Option Act
+peek_of line (Some port) None = Some (Peek line port.signal)
+peek_of line _ _ = None
+
+abbrev pub expect_of : ℕ → Option PortInfo → Option ℕ → Option Act
+expect_of line (Some port) (Some number) = Some (Expect line port.signal number)
+expect_of line _ _ = None
+
+abbrev pub act_at : {A : Type 0} → List (List ℕ × PortInfo) → TestStmt-F A → Option Act
+act_at ports (stmt.Poke line port value) = poke_of line (port_named port ports) (plain value)
+act_at ports (stmt.Peek line port into) = peek_of line (port_named port ports) into
+act_at ports (stmt.Expect line port value) = expect_of line (port_named port ports) (plain value)
+act_at ports (stmt.Step line count) = Some (Arrive line count)
+act_at ports _ = None
+
 abbrev pub act_of : List (List ℕ × PortInfo) → TestStmt → Option Act
-act_of ports (PokeStmt line port value) = option_and_then (poke_of line value) (port_named port ports)
-act_of ports (PeekStmt line port) = option_map (λ p. Peek line p.signal) (port_named port ports)
-act_of ports (ExpectStmt line port value) = option_and_then (expect_of line value) (port_named port ports)
-act_of ports (StepStmt line) = Some (Arrive line)
+act_of ports s = act_at ports (out-TestStmt s)
 
 -- the acts of the statements in order, where each statement has one
 abbrev pub acts_of : List (List ℕ × PortInfo) → List TestStmt → Option (List Act)
 acts_of ports [] = Some []
-acts_of ports (stmt ∷ rest) =
-    option_and_then (λ act. option_map (λ acts. act ∷ acts) (acts_of ports rest)) (act_of ports stmt)
+acts_of ports (s ∷ rest) =
+    option_and_then (λ act. option_map (λ acts. act ∷ acts) (acts_of ports rest)) (act_of ports s)
 
 -- the circuit can take the act: its port is a signal, and an input where it is poked
 abbrev pub Takes : Elab → Act → Type 0
 Takes e (Poke line port raw) = is_input (info e.signals port.0).role ≡ true
 Takes e (Peek line port) = port.0 < length e.signals
 Takes e (Expect line port wanted) = port.0 < length e.signals
-Takes e (Arrive line) = ⊤
+Takes e (Arrive line count) = ⊤

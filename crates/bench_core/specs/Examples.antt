@@ -9,12 +9,13 @@ use Rattle.net_core.specs.declared.tree.GroundExpr.TheVariants.{Apply}
 use Rattle.net_core.specs.declared.tree.Role.TheVariants.{Input, Output, Reg}
 use Rattle.net_core.specs.Examples.{s, r, uint}
 use Rattle.net_design.specs.Designs.{ports_of}
-use Rattle.tl_read.specs.declared.tree.TestStmt.{TestStmt}
-use Rattle.tl_read.specs.declared.tree.TestStmt.TheVariants.{Poke as PokeStmt, Peek as PeekStmt, Expect as ExpectStmt, Step as StepStmt}
+use Rattle.tl_ast.specs.declared.tree.TestExpr.TheVariants.{Num, Neg}
+use Rattle.tl_ast.specs.declared.tree.TestStmt.{TestStmt}
+use Rattle.tl_ast.specs.declared.tree.TestStmt.TheVariants.{Poke as PokeStmt, Peek as PeekStmt, Expect as ExpectStmt, Step as StepStmt, Join as JoinStmt}
 use Rattle.bench_core.specs.declared.act.Act.{Act}
 use Rattle.bench_core.specs.declared.act.Act.TheVariants.{Poke, Peek, Expect, Arrive}
 use Rattle.bench_core.specs.declared.run.Observation.{Observation}
-use Rattle.bench_core.specs.declared.run.Outcome.TheVariants.{Failed, Finished}
+use Rattle.bench_core.specs.declared.run.Outcome.TheVariants.{Failed, Finished, TimeLimit}
 use Rattle.bench_core.specs.declared.run.Run.{Run}
 use Rattle.bench_core.specs.Acts.{acts_of}
 use Rattle.bench_core.specs.World.{run_of}
@@ -39,11 +40,11 @@ delay = record {
 -- `poke a = 3; poke b = 4; peek out; expect out == 7; step 1; peek a;`, each on a line of its own
 abbrev pub adder_test : List TestStmt
 adder_test =
-    PokeStmt 1 (codes "a") 3 ∷ PokeStmt 2 (codes "b") 4 ∷ PeekStmt 3 (codes "out") ∷ ExpectStmt 4 (codes "out") 7
-    ∷ StepStmt 5 ∷ PeekStmt 6 (codes "a") ∷ []
+    PokeStmt 1 (codes "a") (Num 3) ∷ PokeStmt 2 (codes "b") (Num 4) ∷ PeekStmt 3 (codes "out") None ∷ ExpectStmt 4 (codes "out") (Num 7)
+    ∷ StepStmt 5 1 ∷ PeekStmt 6 (codes "a") None ∷ []
 
 abbrev pub adder_acts : List Act
-adder_acts = Poke 1 (s 0) 3 ∷ Poke 2 (s 1) 4 ∷ Peek 3 (s 2) ∷ Expect 4 (s 2) 7 ∷ Arrive 5 ∷ Peek 6 (s 0) ∷ []
+adder_acts = Poke 1 (s 0) 3 ∷ Poke 2 (s 1) 4 ∷ Peek 3 (s 2) ∷ Expect 4 (s 2) 7 ∷ Arrive 5 1 ∷ Peek 6 (s 0) ∷ []
 
 -- what the root thread sees
 abbrev seen : ℕ → ℕ → ℕ → Signal → ℕ → Option ℕ → Observation
@@ -67,17 +68,16 @@ adder_run = record {
 
 -- `poke a = 9; peek out; step 1; peek out;` on one line
 abbrev pub delay_acts : List Act
-delay_acts = Poke 1 (s 0) 9 ∷ Peek 1 (s 1) ∷ Arrive 1 ∷ Peek 1 (s 1) ∷ []
+delay_acts = Poke 1 (s 0) 9 ∷ Peek 1 (s 1) ∷ Arrive 1 1 ∷ Peek 1 (s 1) ∷ []
 
 pub record ActExamples : Type 0 where
   pub of_the_adder : acts_of (ports_of adder) adder_test ≡ Some adder_acts
-  -- an unknown port, an output that is poked, a number of nine bits for a port of eight
-  pub unknown : acts_of (ports_of adder) (PeekStmt 1 (codes "c") ∷ []) ≡ None
-  pub poked_output : acts_of (ports_of adder) (PokeStmt 1 (codes "out") 1 ∷ []) ≡ None
-  pub too_wide : acts_of (ports_of adder) (StepStmt 1 ∷ ExpectStmt 2 (codes "a") 256 ∷ []) ≡ None
-  pub just_fits : acts_of (ports_of adder) (ExpectStmt 2 (codes "a") 255 ∷ []) ≡ Some (Expect 2 (s 0) 255 ∷ [])
-  -- a register is no port
-  pub register : acts_of (ports_of delay) (PeekStmt 1 (codes "r") ∷ []) ≡ None
+  -- a step of many time steps
+  pub long_step : acts_of (ports_of adder) (StepStmt 1 70000 ∷ []) ≡ Some (Arrive 1 70000 ∷ [])
+  -- what isn't in the first form: a number with a sign, a peek that sets a variable, a statement of another kind
+  pub signed : acts_of (ports_of adder) (PokeStmt 1 (codes "a") (Neg (Num 1)) ∷ []) ≡ None
+  pub sets : acts_of (ports_of adder) (PeekStmt 1 (codes "out") (Some (codes "v")) ∷ []) ≡ None
+  pub joins : acts_of (ports_of adder) (StepStmt 1 1 ∷ JoinStmt 2 (codes "h") ∷ []) ≡ None
 
 pub record RunExamples : Type 0 where
   pub of_the_adder : run_of adder adder_acts ≡ adder_run
@@ -96,7 +96,7 @@ pub record RunExamples : Type 0 where
     outcome = Failed 0;
   }
   -- the end of its time step does
-  pub ends_at_step : run_of adder (Arrive 1 ∷ Expect 2 (s 2) 1 ∷ Arrive 3 ∷ Peek 4 (s 2) ∷ []) ≡ record {
+  pub ends_at_step : run_of adder (Arrive 1 1 ∷ Expect 2 (s 2) 1 ∷ Arrive 3 1 ∷ Peek 4 (s 2) ∷ []) ≡ record {
     observations = seen 1 1 2 (s 2) 0 (Some 1) ∷ [];
     actions = 3;
     outcome = Failed 1;
@@ -106,4 +106,17 @@ pub record RunExamples : Type 0 where
     observations = seen 0 1 1 (s 1) 0 None ∷ seen 1 3 1 (s 1) 9 None ∷ [];
     actions = 5;
     outcome = Finished 1;
+  }
+  -- an arrival waits for all of its edges, up to the last time step
+  pub takes_time : run_of adder (Arrive 1 65535 ∷ []) ≡ record { observations = []; actions = 2; outcome = Finished 65535 }
+  pub at_limit : run_of adder (Arrive 1 2 ∷ Arrive 2 65534 ∷ Peek 3 (s 0) ∷ []) ≡ record {
+    observations = [];
+    actions = 2;
+    outcome = TimeLimit 65535;
+  }
+  -- a failure counts for more than the limit
+  pub failed_at_limit : run_of adder (Expect 1 (s 2) 1 ∷ Arrive 2 65536 ∷ []) ≡ record {
+    observations = seen 0 0 1 (s 2) 0 (Some 1) ∷ [];
+    actions = 2;
+    outcome = Failed 0;
   }

@@ -6,7 +6,7 @@ ghost use Rattle.std.specs.Prelude.{◌≡◌, ◌<◌, true, length, IfOk};
 ghost use Rattle.net_core.specs.Signals.{info, is_input};
 ghost use Rattle.net_design.specs.Settling as settling;
 ghost use Rattle.net_design.specs.Settling.{registers_after};
-ghost use Rattle.bench_core.specs.World.{zeros, poked};
+ghost use Rattle.bench_core.specs.World.{zeros, poked, after_edges};
 
 use net_core::{Engine, Signal};
 use net_design::Design;
@@ -69,5 +69,14 @@ impl<'a> Device<'a> {
         ensures { self.new ≡ record self.old { registers = registers_after self.old.elab self.old.inputs self.old.registers } }
     {
         self.engine.edge();
+    }
+
+    /// So many of the clock's rising edges.
+    pub(crate) fn edges(&mut self, count: u32)
+        ensures { self.new ≡ record self.old { registers = after_edges self.old.elab self.old.inputs count self.old.registers } }
+    {
+        for _edge in 0..count {
+            self.edge();
+        }
     }
 }

@@ -1,6 +1,6 @@
 //! The bench: a test that was checked against a circuit's ports, and its run.
 //!
-//! [`check_test`] turns the statements of a test into acts, which name ports by their numbers.
+//! [`first_acts`] turns the statements of a test in the first form into acts, which name ports by their numbers.
 //! [`run_first`] takes the acts one after another on a plain engine and gives the run: what was
 //! observed, how many actions there were, and how it ended. What a run is, is said without an
 //! engine, as a world that goes through the acts (`specs/World.antt`): its values are the settled
@@ -13,7 +13,7 @@ mod examples;
 mod laws;
 mod run;
 
-pub use act::{Act, TestFault, check_test};
+pub use act::{Act, FormFault, first_acts};
 pub use examples::{the_acts_work_out, the_runs_work_out};
 pub use laws::runs_tell_failures;
 pub use run::{Observation, Outcome, Run, run_first};

@@ -3,10 +3,10 @@
 //! A bench keeps a circuit under test and what has happened so far. Contracts see it as a world: the
 //! circuit's inputs and registers, the time step, the records, whether this time step has a failure,
 //! and the number of actions. Each step of the run is one step of that world.
-ghost use Rattle.std.specs.Prelude.{◌≡◌, ◌-◌, ◌^◌, ◌<◌, length, IfOk, OnOk, Some, None};
+ghost use Rattle.std.specs.Prelude.{◌≡◌, ◌+◌, ◌-◌, ◌^◌, ◌<◌, ◌≤◌, false, length, IfOk, OnOk, Some, None};
 ghost use Rattle.std.specs.List.{All};
 ghost use Rattle.bench_core.specs.Acts.{Takes};
-ghost use Rattle.bench_core.specs.World.{first_world, number_at, observation, recorded, counted, acted, stepped, is_over_at, ended, run_of};
+ghost use Rattle.bench_core.specs.World.{first_world, number_at, observation, recorded, counted, acted, stepped, last_time, is_over_at, ended, run_of};
 ghost use Rattle.bench_core.specs.Bench.{world_of};
 ghost use Rattle.bench_core.specs.declared.act.Act.{Act};
 
@@ -42,7 +42,12 @@ pub enum Outcome {
     Failed { time: u32 },
     /// The test is done, without a failure.
     Finished { time: u32 },
+    /// The last time step that a run may have is over, without a failure, and the test isn't done.
+    TimeLimit { time: u32 },
 }
+
+/// The last time step that a run may have.
+const LAST_TIME: u32 = 65_535;
 
 /// A run that is over.
 #[derive(Debug, Drop)]
@@ -140,21 +145,21 @@ impl<'a> Bench<'a> {
         Ok(())
     }
 
-    /// Ends the time step: the clock has its edge.
-    fn step(&mut self)
-        requires { self.old.time < 2 ^ 32 - 1 }
+    /// Ends so many time steps: the clock has its edges.
+    fn step(&mut self, count: u32)
+        requires { self.old.time + count < 2 ^ 32 }
         ensures elab { self.new.device.elab ≡ self.old.device.elab }
-        ensures world { world_of self.new ≡ stepped self.old.device.elab (world_of self.old) }
+        ensures world { world_of self.new ≡ stepped self.old.device.elab count (world_of self.old) }
     {
-        self.device.edge();
-        self.time += 1;
+        self.device.edges(count);
+        self.time += count;
         self.failed = false;
     }
 
     /// Takes the action of an act with which the run isn't over.
     fn act(&mut self, alloc: Global, act: Act) -> Result<(), Memory>
         requires actions { self.old.actions < 2 ^ 32 - 1 }
-        requires time { self.old.time < 2 ^ 32 - 1 }
+        requires goes_on { is_over_at (world_of self.old) act ≡ false }
         requires taken { Takes self.old.device.elab act }
         ensures elab { OnOk result (self.new.device.elab ≡ self.old.device.elab) }
         ensures world { OnOk result (world_of self.new ≡ acted self.old.device.elab (world_of self.old) act) }
@@ -173,9 +178,9 @@ impl<'a> Bench<'a> {
                 self.expect(alloc, line, port, wanted)?;
                 Ok(())
             }
-            Act::Arrive { .. } => {
+            Act::Arrive { count, .. } => {
                 self.actions += 1;
-                self.step();
+                self.step(count as u32);
                 Ok(())
             }
         }
@@ -183,18 +188,21 @@ impl<'a> Bench<'a> {
 
     /// Whether the run is over with this act.
     fn is_over_at(&self, act: Act) -> bool
+        requires { self.now.time ≤ last_time }
         ensures { result ≡ is_over_at (world_of self.now) act }
     {
         match act {
-            Act::Arrive { .. } => self.failed,
+            Act::Arrive { count, .. } => {
+                self.failed || count > u128::from(LAST_TIME - self.time)
+            }
             _ => false,
         }
     }
 
-    /// The run that is over with one more action.
-    fn end(self) -> Run
+    /// The run that is over with one more action. It ended so where the time step has no failure.
+    fn end(self, otherwise: Outcome) -> Run
         requires { self.actions < 2 ^ 32 - 1 }
-        ensures { result ≡ ended (counted (world_of self.entry)) }
+        ensures { result ≡ ended (counted (world_of self.entry)) otherwise }
     {
         let Bench {
             time,
@@ -209,7 +217,7 @@ impl<'a> Bench<'a> {
             outcome: if failed {
                 Outcome::Failed { time }
             } else {
-                Outcome::Finished { time }
+                otherwise
             },
         }
     }
@@ -219,9 +227,10 @@ impl<'a> Bench<'a> {
 ///
 /// Each act is an action, and so is the end of the test. A value that is read is the one after all
 /// earlier pokes and edges. An expect that fails makes a record, and the test goes on; the run has
-/// failed when the time step with the failure ends. The one refusal is want of memory. An act costs
+/// failed when the time step with the failure ends. A run has no time step past 65,535: where an arrival
+/// would go on behind it, the run is at its limit. The one refusal is want of memory. An act costs
 /// a constant number of steps, but for an edge and the first value that is read after a poke or an
-/// edge: these take time linear in the size of the circuit's net.
+/// edge: these take time linear in the size of the circuit's net. There are at most 65,535 edges.
 pub fn run_first(alloc: Global, design: &Design, acts: &[Act]) -> Result<Run, Memory>
     requires few { length acts.now < 2 ^ 32 - 1 }
     requires taken { All (Takes design.now.elab) acts.now }
@@ -230,9 +239,10 @@ pub fn run_first(alloc: Global, design: &Design, acts: &[Act]) -> Result<Run, Me
     let mut bench = Bench::new(alloc, design)?;
     for act in acts {
         if bench.is_over_at(*act) {
-            return Ok(bench.end());
+            return Ok(bench.end(Outcome::TimeLimit { time: LAST_TIME }));
         }
         bench.act(alloc, *act)?;
     }
-    Ok(bench.end())
+    let time = bench.time;
+    Ok(bench.end(Outcome::Finished { time }))
 }

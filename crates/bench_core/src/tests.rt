@@ -1,45 +1,44 @@
+ghost use Rattle.std.specs.Prelude.{◌≤◌, length};
+ghost use Rattle.tl_written.specs.Written.{text_limit};
+
 use super::*;
 use net_core::{PortInfo, PortTable, Signal};
 use std::alloc::Global;
 use std::test::Fail;
-use tb_base::{Name, Seq};
-use tl_read::{TestStmt, TestText};
+use tb_base::Memory;
+use tl_check::{CheckedTest, check_test};
+use tl_text::read_test;
+use tl_written::texts_spell_written_tests;
 
-/// The table of one port of eight bits.
-fn one_port(alloc: Global, input: bool, name: &[u8]) -> Result<PortTable, Fail> {
+/// One port, the input `in` of eight bits.
+fn table(alloc: Global) -> Result<PortTable, Memory> {
     let mut ports = PortTable::new(alloc);
     let info = PortInfo {
         signal: Signal(0),
-        input,
+        input: true,
         signed: false,
         width: 8,
     };
-    ports
-        .add(name.to_vec(alloc)?, info)
-        .ok()
-        .ok_or("no memory")?;
+    ports.add(Vec::from_slice(alloc, b"in")?, info)?;
     Ok(ports)
 }
 
-/// A test that pokes one port.
-fn poke(alloc: Global, port: &[u8], value: u128) -> Result<TestText, Fail> {
-    let port = Name::of(port.to_vec(alloc)?);
-    let mut body = Vec::new(alloc);
-    body.push(TestStmt::Poke {
-        line: 1,
-        port,
-        value,
-    })?;
-    Ok(TestText {
-        body: Seq::of(body),
-    })
+/// The test of a text, where it spells one that keeps the rules.
+fn checked(alloc: Global, text: &[u8], ports: &PortTable) -> Option<CheckedTest>
+    requires { length text.now ≤ text_limit }
+{
+    let Ok(test) = read_test(alloc, text) else {
+        return None;
+    };
+    texts_spell_written_tests();
+    check_test(alloc, &test, ports).ok()
 }
 
 #[test]
-fn an_input_is_poked(rt: HostRuntime) -> Result<(), Fail> {
-    let ports = one_port(rt.alloc(), true, b"in")?;
-    let test = poke(rt.alloc(), b"in", 255)?;
-    let acts = check_test(rt.alloc(), &test, &ports)?;
+fn a_poke_of_a_number_is_in_the_first_form(rt: HostRuntime) -> Result<(), Fail> {
+    let ports = table(rt.alloc())?;
+    let checked = checked(rt.alloc(), b"poke in = 255;", &ports).ok_or("refused")?;
+    let acts = first_acts(rt.alloc(), &checked)?;
     let wanted = [Act::Poke {
         line: 1,
         port: Signal(0),
@@ -50,12 +49,12 @@ fn an_input_is_poked(rt: HostRuntime) -> Result<(), Fail> {
 }
 
 #[test]
-fn an_output_is_not_poked(rt: HostRuntime) -> Result<(), Fail> {
-    let ports = one_port(rt.alloc(), false, b"out")?;
-    let test = poke(rt.alloc(), b"out", 1)?;
+fn a_variable_is_not_in_the_first_form(rt: HostRuntime) -> Result<(), Fail> {
+    let ports = table(rt.alloc())?;
+    let checked = checked(rt.alloc(), b"let v = 1;", &ports).ok_or("refused")?;
     assert_eq!(rt;
-        check_test(rt.alloc(), &test, &ports).err(),
-        Some(TestFault::NotInForm)
+        first_acts(rt.alloc(), &checked).err(),
+        Some(FormFault::NotInForm)
     );
     Ok(())
 }

@@ -1,5 +1,5 @@
 -- Sums and products of numbers that are cut at one past the limit.
-use Rattle.std.proofs.Common.{ℕ, zero, suc, ◌≡◌, ◌*◌, ◌<◌, ◌≤◌, inl, inr, ◌∙◌, ap, arith}
+use Rattle.std.proofs.Common.{ℕ, zero, suc, ◌≡◌, ◌+◌, ◌*◌, ◌<◌, ◌≤◌, inl, inr, ◌∙◌, ap, arith}
 use Rattle.std.proofs.Math.Nat.{le-mul_of_pos_right}
 use Rattle.std.proofs.lemmas.Bool.{cases_lt}
 use Rattle.fir_flat.specs.Counts.{cut}
@@ -27,3 +27,13 @@ cut_product a b r n m e p q =
     let u : a * m ≡ m * a = omega arith in
     let v : m * n ≡ n * m = omega arith in
     e ∙ f ∙ ap cut u ∙ g ∙ ap cut v
+
+pub cut_inside : (t w u : ℕ) → u ≡ cut (t + w) → u ≡ cut (t + cut w)
+cut_inside t w u e = omega (arith, e)
+
+-- past the limit nothing more counts
+pub cut_over : (t w u : ℕ) → 4194305 ≤ t → u ≡ cut (t + 0) → u ≡ cut (t + w)
+cut_over t w u h e = omega (arith, h, e)
+
+pub cut_added : (t r w u : ℕ) → u ≡ cut (t + r) → r ≡ cut w → u ≡ cut (t + w)
+cut_added t r w u e f = omega (arith, e, f)

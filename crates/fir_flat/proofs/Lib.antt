@@ -28,3 +28,4 @@ pub mod PortEntries
 pub mod CourseFacts
 pub mod ScopeFacts
 pub mod FieldFacts
+pub mod TypeFacts

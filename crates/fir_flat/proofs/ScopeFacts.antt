@@ -10,10 +10,10 @@ use Rattle.fir_flat.specs.declared.kinds.Flow.TheVariants.{Fixed}
 use Rattle.fir_flat.specs.declared.kinds.Known.{Known}
 use Rattle.fir_flat.specs.declared.places.NamePlaces.{NamePlaces}
 use Rattle.fir_flat.specs.Shapes.{empty}
-use Rattle.fir_flat.specs.Values.{bound, bound_named}
+use Rattle.fir_flat.specs.Values.{Bound, bound, bound_named}
 use Rattle.fir_flat.specs.Modules.{place_of}
-use Rattle.fir_flat.specs.declared.fields.Fields.{Fields}
-use Rattle.fir_flat.specs.Fields.{Offers, OffersEach}
+use Rattle.fir_flat.specs.declared.kinds.Kind.{Kind}
+use Rattle.fir_flat.specs.KnownNames.{KindsOf}
 use Rattle.fir_flat.specs.Kinds.{kind_shape, bound_of, seen}
 use Rattle.fir_flat.specs.Scopes.{place_given, Gives, SamePlaces, first_place, is_at, GivesFirst, GivesModules}
 
@@ -235,50 +235,54 @@ none_said true (Some x) e = cc
 none_said false None e = cc
 none_said false (Some x) e = refl
 
--- the fields of the names
+-- the types of the names
 
-pub offered : (name : List ℕ) (ks : List Known) (fs : List Fields) (p : ℕ) (f : Fields) → OffersEach ks fs → first_place name ks ≡ Some p
-    → Offers (bound_named name (seen ks)).ty (get_or fs p f)
+pub offered : (name : List ℕ) (ks : List Known) (fs : List Kind) (p : ℕ) (f : Kind) → KindsOf ks fs → first_place name ks ≡ Some p
+    → kind_shape (get_or fs p f) ≡ (bound_named name (seen ks)).ty
 offered name [] fs p f o e = cc
 offered name (k ∷ ks) [] p f o e = absurd o
 offered name (k ∷ ks) (g ∷ fs) zero f o e = by (bytes_eq k.name.now name) refl e
   where
-    by : (b : Bool) → bytes_eq k.name.now name ≡ b → cond b (Some 0) (option_map suc (first_place name ks)) ≡ Some 0 → Offers (bound_named name (seen (k ∷ ks))).ty g
-    by true h i = subst (λ (b : Bool). Offers (if b then bound_of k else bound_named name (seen ks)).ty g) (sym h) o.0
+    by : (b : Bool) → bytes_eq k.name.now name ≡ b → cond b (Some 0) (option_map suc (first_place name ks)) ≡ Some 0 → kind_shape g ≡ (bound_named name (seen (k ∷ ks))).ty
+    by true h i = subst (λ (b : Bool). kind_shape g ≡ (if b then bound_of k else bound_named name (seen ks)).ty) (sym h) o.0
     by false h i = not_first (first_place name ks) _ i
 offered name (k ∷ ks) (g ∷ fs) (suc p) f o e = by (offered name ks fs p f o.1) (bytes_eq k.name.now name) refl e
   where
-    by : (first_place name ks ≡ Some p → Offers (bound_named name (seen ks)).ty (get_or fs p f)) → (b : Bool) → bytes_eq k.name.now name ≡ b
-        → cond b (Some 0) (option_map suc (first_place name ks)) ≡ Some (suc p) → Offers (bound_named name (seen (k ∷ ks))).ty (get_or fs p f)
+    by : (first_place name ks ≡ Some p → kind_shape (get_or fs p f) ≡ (bound_named name (seen ks)).ty) → (b : Bool) → bytes_eq k.name.now name ≡ b
+        → cond b (Some 0) (option_map suc (first_place name ks)) ≡ Some (suc p) → kind_shape (get_or fs p f) ≡ (bound_named name (seen (k ∷ ks))).ty
     by h true i j = cc
     by h false i j =
-        subst (λ (b : Bool). Offers (if b then bound_of k else bound_named name (seen ks)).ty (get_or fs p f)) (sym i) (h (after_suc (first_place name ks) p j))
+        subst (λ (b : Bool). kind_shape (get_or fs p f) ≡ (if b then bound_of k else bound_named name (seen ks)).ty) (sym i) (h (after_suc (first_place name ks) p j))
 
-pub offered_enough : (ks : List Known) (fs : List Fields) → OffersEach ks fs → length ks ≤ length fs
+pub offered_enough : (ks : List Known) (fs : List Kind) → KindsOf ks fs → length ks ≤ length fs
 offered_enough [] fs o = omega arith
 offered_enough (k ∷ ks) [] o = absurd o
 offered_enough (k ∷ ks) (f ∷ fs) o = let h = offered_enough ks fs o.1 in omega (arith, h)
 
-pub offered_cut : (ks : List Known) (fs : List Fields) → OffersEach ks fs → OffersEach ks (take (length ks) fs)
+pub offered_cut : (ks : List Known) (fs : List Kind) → KindsOf ks fs → KindsOf ks (take (length ks) fs)
 offered_cut [] fs o = o
 offered_cut (k ∷ ks) [] o = absurd o
 offered_cut (k ∷ ks) (f ∷ fs) o = (o.0, offered_cut ks fs o.1)
 
-pub offered_still : (ks : List Known) (fs : List Fields) (g : Fields) → OffersEach ks fs → OffersEach ks (take (length ks) fs ++ g ∷ [])
+pub offered_still : (ks : List Known) (fs : List Kind) (g : Kind) → KindsOf ks fs → KindsOf ks (take (length ks) fs ++ g ∷ [])
 offered_still [] fs g o = o
 offered_still (k ∷ ks) [] g o = absurd o
 offered_still (k ∷ ks) (f ∷ fs) g o = (o.0, offered_still ks fs g o.1)
 
-pub offered_more : (ks : List Known) (fs : List Fields) (k : Known) (g : Fields) → OffersEach ks fs → Offers (kind_shape k.kind) g
-    → OffersEach (ks ++ k ∷ []) (take (length ks) fs ++ g ∷ [])
+pub offered_more : (ks : List Known) (fs : List Kind) (k : Known) (g : Kind) → KindsOf ks fs → kind_shape g ≡ kind_shape k.kind
+    → KindsOf (ks ++ k ∷ []) (take (length ks) fs ++ g ∷ [])
 offered_more [] [] k g o h = (h, o)
 offered_more [] (f ∷ fs) k g o h = (h, o)
 offered_more (x ∷ ks) [] k g o h = absurd o
 offered_more (x ∷ ks) (f ∷ fs) k g o h = (o.0, offered_more ks fs k g o.1 h)
 
-pub offered_fewer : (ks : List Known) (fs : List Fields) (n : ℕ) → OffersEach ks fs → OffersEach (take n ks) fs
+pub offered_fewer : (ks : List Known) (fs : List Kind) (n : ℕ) → KindsOf ks fs → KindsOf (take n ks) fs
 offered_fewer [] fs zero o = o
 offered_fewer [] fs (suc n) o = o
 offered_fewer (k ∷ ks) [] n o = absurd o
 offered_fewer (k ∷ ks) (f ∷ fs) zero o = tt
 offered_fewer (k ∷ ks) (f ∷ fs) (suc n) o = (o.0, offered_fewer ks fs n o.1)
+
+-- a name with its type looked up
+pub with_kind : (k : Known) (x : Kind) (b : Bound) → bound_of k ≡ b → kind_shape x ≡ b.ty → bound_of (record { name = k.name; kind = x; flow = k.flow; first = k.first }) ≡ b
+with_kind k x b e f = ap (λ t. bound k.name.now t k.flow k.first) (f ∙ sym (ap (λ (y : Bound). y.ty) e)) ∙ e

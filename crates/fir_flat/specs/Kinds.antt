@@ -1,11 +1,12 @@
 -- What contracts see of the code's types and of the names that it knows.
 use Rattle.std.specs.Prelude.{◌≡◌, ℕ, ◌+◌, ◌==◌, List, map, sum, if◌then◌else◌}
 use Rattle.fir_flat.specs.declared.kinds.Kind.{Kind}
-use Rattle.fir_flat.specs.declared.kinds.Kind.TheVariants.{Of, Ports, Number, Empty}
+use Rattle.fir_flat.specs.declared.kinds.Kind.TheVariants.{Of, Numbered, Ports, Number, Empty}
 use Rattle.fir_flat.specs.declared.kinds.Known.{Known}
 use Rattle.fir_flat.specs.declared.kinds.Place.{Place}
 use Rattle.fir_flat.specs.declared.weights.Weight.{Weight}
 use Rattle.fir_flat.specs.declared.weights.Operands.{Operands}
+use Rattle.fir_check.specs.Seen.{type_at}
 use Rattle.fir_flat.specs.Counts.{cut}
 use Rattle.fir_flat.specs.Shapes.{FieldPlace, Shape, empty, shape_of, ports_shape}
 use Rattle.fir_flat.specs.Values.{Bound, bound, number}
@@ -13,6 +14,7 @@ use Rattle.fir_flat.specs.Measures.{Measure, measure_at}
 
 abbrev pub kind_shape : Kind → Shape
 kind_shape (Of t) = shape_of t.now
+kind_shape (Numbered types n) = shape_of (type_at types.now n)
 kind_shape (Ports ps) = ports_shape ps.now
 kind_shape (Number signed) = number signed
 kind_shape Empty = empty

@@ -21,3 +21,6 @@ pub mod Limits
 pub mod Examples
 pub mod Flattening
 pub mod Fields
+pub mod Types
+pub mod PortRows
+pub mod KnownNames

@@ -1,9 +1,10 @@
 -- Names and their places: the names that are known in a body, and the modules.
-use Rattle.std.specs.Prelude.{◌≡◌, ◌&&◌, ℕ, zero, suc, nat_eq, Bool, false, Option, Some, None, option_map, List, [], ◌∷◌, bytes_eq, if◌then◌else◌}
+use Rattle.std.specs.Prelude.{map, ◌≡◌, ◌&&◌, ℕ, zero, suc, nat_eq, Bool, false, Option, Some, None, option_map, List, [], ◌∷◌, bytes_eq, if◌then◌else◌}
 use Rattle.std.specs.List.{position_from}
 use Rattle.std.specs.Map.{lookup}
 use Rattle.std.specs.Cmp.Lexicographic.{pointwise}
 use Rattle.fir_ast.specs.declared.tree.Module.{Module}
+use Rattle.fir_ast.specs.declared.tree.Port.{Port}
 use Rattle.fir_flat.specs.declared.kinds.Known.{Known}
 use Rattle.fir_flat.specs.declared.places.NamePlaces.{NamePlaces}
 
@@ -36,3 +37,8 @@ pub record GivesFirst (known : List Known) (places : NamePlaces) : Type 0 where
 -- each name of a module was given the first place of a module of that name, from a place on
 pub record GivesModules (from : ℕ) (modules : List Module) (places : NamePlaces) : Type 0 where
   pub each : (name : List ℕ) → place_given name places ≡ position_from (λ m. bytes_eq m.name name) from modules
+
+-- the names of the modules were given their places, and these are the modules' ports
+pub record IsDirectory (modules : List Module) (lists : List (List Port)) (places : NamePlaces) : Type 0 where
+  pub given : GivesModules 0 modules places
+  pub ports : lists ≡ map (λ m. m.ports) modules

@@ -5,7 +5,7 @@ ghost use Rattle.fir_flat.specs.Counts.{cut};
 use tb_base::Memory;
 
 /// One past the greatest limit.
-const CUT: u64 = 4_194_305;
+pub(crate) const CUT: u64 = 4_194_305;
 
 /// The sum, at most one past the limit.
 pub(crate) fn sum(a: u64, b: u64) -> u64

@@ -1,9 +1,14 @@
 //! The modules of a circuit, by their names and places.
-ghost use Rattle.std.specs.Prelude.{◌≡◌, length, IfOk};
+ghost use Rattle.std.specs.Prelude.{◌≡◌, length, map, IfOk};
 ghost use Rattle.fir_flat.specs.Modules.{place_of, module_at};
 ghost use Rattle.fir_flat.specs.Scopes.{GivesModules};
+ghost use Rattle.fir_flat.specs.Shapes.{ports_shape};
+ghost use Rattle.fir_flat.specs.Kinds.{kind_shape};
 
+use crate::kinds::Kind;
 use crate::places::NamePlaces;
+use crate::port_rows::PortRow;
+use crate::types::Types;
 use fir_ast::{Module, Port, Stmt};
 use std::alloc::Global;
 use std::marker::Model;
@@ -13,6 +18,8 @@ use tb_base::Memory;
 #[derive(Drop)]
 pub(crate) struct Directory<'a> {
     modules: &'a [Module],
+    types: &'a Types<'a>,
+    ports: &'a [PortRow<'a>],
     places: NamePlaces<'a>,
 }
 
@@ -28,20 +35,37 @@ impl<'a> Model for Directory<'a> {
 
     ghost coded = { Prim.hlevel (codes, ty.the_row.coded, expr.the_row.coded, stmt.the_row.coded) };
 
-    ghost use Rattle.fir_flat.specs.Scopes.{GivesModules};
+    ghost use Rattle.fir_flat.specs.Scopes.{IsDirectory};
 
     ghost view = { λ d. d.modules.now };
 
-    ghost invariant = { λ d. GivesModules 0 d.modules.now d.places };
+    ghost invariant = { λ d. IsDirectory d.modules.now d.ports.now d.places };
 }
 
 impl<'a> Directory<'a> {
-    /// The modules with their names' places. The time is linear in their number.
-    pub(crate) fn new(alloc: Global, modules: &'a [Module]) -> Result<Directory<'a>, Memory>
+    /// The modules with their names' places, and with the types that they declare. The time is linear in
+    /// their number.
+    pub(crate) fn new(
+        alloc: Global,
+        modules: &'a [Module],
+        types: &'a Types<'a>,
+        ports: &'a [PortRow<'a>],
+    ) -> Result<Directory<'a>, Memory>
+        requires { ports.now ≡ map (λ m. m.ports) modules.now }
         ensures { IfOk result (λ d. d ≡ modules.now) }
     {
         let places = place_modules(alloc, modules)?;
-        Ok(Directory { modules, places })
+        Ok(Directory {
+            modules,
+            types,
+            ports,
+            places,
+        })
+    }
+
+    /// The types that the modules declare.
+    pub(crate) fn types(&self) -> &'a Types<'a> {
+        self.types
     }
 
     /// The modules.
@@ -70,6 +94,17 @@ impl<'a> Directory<'a> {
             self.modules[place].ports.items()
         } else {
             &[]
+        }
+    }
+
+    /// The type of an instance of the module at a place; an empty bundle past the last.
+    pub(crate) fn instance_at(&self, place: usize) -> Kind<'a>
+        ensures { kind_shape result ≡ ports_shape (module_at self.now place).ports }
+    {
+        if place < self.ports.len() {
+            Kind::Ports(&self.ports[place])
+        } else {
+            Kind::Empty
         }
     }
 

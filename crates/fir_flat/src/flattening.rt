@@ -1,5 +1,5 @@
 //! The elaboration itself: the main module, expanded until nothing is to come.
-ghost use Rattle.std.specs.Prelude.{◌≡◌, ◌<◌, ℕ, length, IfOk, IfErr, OnOk};
+ghost use Rattle.std.specs.Prelude.{◌≡◌, ◌<◌, ℕ, length, map, IfOk, IfErr, OnOk};
 ghost use Rattle.fir_flat.specs.Modules.{place_of, targets_of, Ranked};
 ghost use Rattle.fir_flat.specs.Elaboration.{opened, elab};
 ghost use Rattle.fir_flat.specs.Flattening.{Expands, IsWhole};
@@ -9,11 +9,13 @@ ghost use Rattle.fir_flat.specs.Writing.{CountsSignals};
 
 use crate::directory::Directory;
 use crate::homes::signal_counts;
-use crate::limits::{FlatFault, check_limits};
+use crate::limits::{FlatFault, judge_limits};
 use crate::own_body::write_own;
 use crate::own_entries::list_own;
+use crate::port_rows::{PortRow, port_rows};
 use crate::signals::{Entry, Opening};
-use fir_ast::Circuit;
+use crate::types::Types;
+use fir_ast::{Circuit, Ty};
 use net_core::{Elab, Ground, SignalInfo};
 use std::alloc::Global;
 use tb_base::{Memory, Name, Seq};
@@ -104,8 +106,39 @@ pub fn flatten(alloc: Global, circuit: &Circuit) -> Result<Elab, FlatFault>
     ensures fits { IfOk result (λ e. Fits circuit.now) }
     ensures err { IfErr result (λ fault. Passes circuit.now fault) }
 {
-    check_limits(alloc, circuit)?;
-    let modules = Directory::new(alloc, circuit.modules.items())?;
+    let plain = Ty::UInt(None);
+    let types = Types::new(alloc, circuit.modules.items(), &plain)?;
+    flatten_by_types(alloc, circuit, &types)
+}
+
+/// `flatten`, where the types that the circuit declares are known.
+fn flatten_by_types(alloc: Global, circuit: &Circuit, types: &Types) -> Result<Elab, FlatFault>
+    requires ranked { (rank : ℕ → ℕ) × IsRanked rank circuit.now }
+    requires main { place_of circuit.now.modules circuit.now.name < length circuit.now.modules }
+    ensures ok { IfOk result (λ e. e ≡ elab circuit.now) }
+    ensures fits { IfOk result (λ e. Fits circuit.now) }
+    ensures err { IfErr result (λ fault. Passes circuit.now fault) }
+{
+    let ports = port_rows(alloc, types, circuit.modules.items())?;
+    flatten_by_ports(alloc, circuit, types, &ports)
+}
+
+/// `flatten`, where the ports of each module are known besides.
+fn flatten_by_ports(
+    alloc: Global,
+    circuit: &Circuit,
+    types: &Types,
+    ports: &[PortRow],
+) -> Result<Elab, FlatFault>
+    requires ports { ports.now ≡ map (λ m. m.ports) circuit.now.modules }
+    requires ranked { (rank : ℕ → ℕ) × IsRanked rank circuit.now }
+    requires main { place_of circuit.now.modules circuit.now.name < length circuit.now.modules }
+    ensures ok { IfOk result (λ e. e ≡ elab circuit.now) }
+    ensures fits { IfOk result (λ e. Fits circuit.now) }
+    ensures err { IfErr result (λ fault. Passes circuit.now fault) }
+{
+    let modules = Directory::new(alloc, circuit.modules.items(), types, ports)?;
+    judge_limits(alloc, circuit, &modules)?;
     let main = Opening {
         target: modules.place_of(circuit.name.bytes()),
         first: 0,

@@ -1,14 +1,19 @@
 //! Types as the elaboration sees them, and what a name stands for.
 ghost use Rattle.std.specs.Prelude.{◌≡◌, []};
 ghost use Rattle.fir_flat.specs.Counts.{cut};
-ghost use Rattle.fir_flat.specs.Shapes.{size, empty, field_named, fields_shape, shape_of, ports_shape, element, elements, is_signed};
+ghost use Rattle.fir_check.specs.Seen.{type_at};
+ghost use Rattle.fir_flat.specs.Shapes.{Shape, size, empty, field_named, fields_shape, shape_of, element, elements, is_signed};
 ghost use Rattle.fir_flat.specs.Measures.{facing};
 ghost use Rattle.fir_flat.specs.Values.{turned, may_be_driven};
+ghost use Rattle.fir_flat.specs.Fields.{member_shape, Covers};
 ghost use Rattle.fir_flat.specs.Kinds.{kind_shape, Finds};
 
 use crate::counts::sum;
-use crate::sizes::{facing, facing_ports, size_of, size_of_ports};
-use fir_ast::{Field, Port, Ty};
+use crate::fields::{FieldTable, Member};
+use crate::port_rows::PortRow;
+use crate::sizes::{facing, size_of};
+use crate::types::Types;
+use fir_ast::{Field, Ty};
 
 /// How a part may be driven.
 #[derive(Clone, Copy, Debug, PartialEq, Eq)]
@@ -48,8 +53,10 @@ impl Flow {
 pub(crate) enum Kind<'a> {
     /// A type of the text.
     Of(&'a Ty),
+    /// One that the circuit declares, by its number.
+    Numbered { types: &'a Types<'a>, number: usize },
     /// That of an instance: a bundle of the ports, the inputs flipped.
-    Ports(&'a [Port]),
+    Ports(&'a PortRow<'a>),
     /// A number without a written width, signed or not.
     Number(bool),
     /// A bundle without fields, which also stands for what isn't known.
@@ -76,37 +83,41 @@ pub(crate) struct Known<'a> {
 }
 
 impl<'a> Kind<'a> {
-    /// The number of ground parts. The time is linear in the size of the type's text.
+    /// The number of ground parts. Only of a type that has no number the time grows with its text.
     pub(crate) fn size(self) -> u64
         ensures { result ≡ cut (size (kind_shape self.entry)) }
     {
         match self {
             Kind::Of(ty) => size_of(ty),
-            Kind::Ports(ports) => size_of_ports(ports),
+            Kind::Numbered { types, number } => types.size(number),
+            Kind::Ports(ports) => ports.size(),
             Kind::Number(_) => 1,
             Kind::Empty => 0,
         }
     }
 
-    /// The number of ground parts that go against the type, or with it.
+    /// The number of ground parts that go against the type, or with it. The time is as of `size`.
     pub(crate) fn facing(self, against: bool) -> u64
         ensures { result ≡ cut (facing against (kind_shape self.entry)) }
     {
         match self {
             Kind::Of(ty) => facing(ty, against),
-            Kind::Ports(ports) => facing_ports(ports, against),
+            Kind::Numbered { types, number } => types.facing(number, against),
+            Kind::Ports(ports) => ports.facing(against),
             Kind::Number(_) => u64::from(!against),
             Kind::Empty => 0,
         }
     }
 
-    /// The field of a name. The time is linear in the size of the type's text.
+    /// The field of a name. The time is that of a look-up; only of a type that has no number it is
+    /// linear in the size of the type's text.
     pub(crate) fn field(self, name: &[u8]) -> Place<'a>
         ensures { Finds (field_named name.now (kind_shape self.entry)) result }
     {
         match self {
             Kind::Of(ty) => field_of_type(ty, name),
-            Kind::Ports(ports) => port_named(ports, name),
+            Kind::Numbered { types, number } => field_of_number(types, number, name),
+            Kind::Ports(ports) => ports.field(name),
             Kind::Number(_) => nowhere(),
             Kind::Empty => nowhere(),
         }
@@ -119,6 +130,7 @@ impl<'a> Kind<'a> {
     {
         match self {
             Kind::Of(ty) => element_of_type(ty),
+            Kind::Numbered { types, number } => element_of_number(types, number),
             Kind::Ports(_) => Kind::Empty,
             Kind::Number(_) => Kind::Empty,
             Kind::Empty => Kind::Empty,
@@ -132,6 +144,7 @@ impl<'a> Kind<'a> {
     {
         match self {
             Kind::Of(ty) => elements_of_type(ty),
+            Kind::Numbered { types, number } => elements_of_type(types.ty(number)),
             Kind::Ports(_) => 0,
             Kind::Number(_) => 0,
             Kind::Empty => 0,
@@ -145,6 +158,7 @@ impl<'a> Kind<'a> {
     {
         match self {
             Kind::Of(ty) => is_signed_type(ty),
+            Kind::Numbered { types, number } => is_signed_type(types.ty(number)),
             Kind::Ports(_) => false,
             Kind::Number(signed) => signed,
             Kind::Empty => false,
@@ -200,27 +214,71 @@ fn named_in<'a>(fields: &'a [Field], name: &[u8]) -> Place<'a>
     }
 }
 
-fn port_named<'a>(ports: &'a [Port], name: &[u8]) -> Place<'a>
-    ensures { Finds (field_named name.now (ports_shape ports.now)) result }
+/// A type inside one of these.
+fn kind_of_member<'a>(types: &'a Types<'a>, member: Member<'a>) -> Kind<'a>
+    ensures { kind_shape result ≡ member_shape types.now member.entry }
 {
-    let mut before = 0;
-    let mut k = 0;
-    while k < ports.len() {
-        let port = &ports[k];
-        if port.name.bytes() == name {
-            return Place {
-                before,
-                flip: !port.output,
-                of: Kind::Of(&port.ty),
-            };
-        }
-        before = sum(before, size_of(&port.ty));
-        k += 1;
+    match member {
+        Member::Numbered(number) => Kind::Numbered { types, number },
+        Member::Plain(ty) => Kind::Of(ty),
     }
-    Place {
-        before,
-        flip: false,
-        of: Kind::Empty,
+}
+
+/// The field of a name, by the table of a bundle's fields. The time is that of a look-up.
+pub(crate) fn place_in<'a>(types: &'a Types<'a>, table: &FieldTable<'a>, name: &[u8]) -> Place<'a>
+    ensures { (t : Shape) → Covers types.now t empty table.now → Finds (field_named name.now t) result }
+{
+    match table.find(name) {
+        Some(spot) => Place {
+            before: spot.before,
+            flip: spot.flip,
+            of: kind_of_member(types, spot.of),
+        },
+        None => Place {
+            before: table.before,
+            flip: false,
+            of: Kind::Empty,
+        },
+    }
+}
+
+fn field_of_number<'a>(types: &'a Types<'a>, number: usize, name: &[u8]) -> Place<'a>
+    ensures { Finds (field_named name.now (shape_of (type_at types.now number))) result }
+{
+    let row = types.row(number);
+    match &row.fields {
+        Some(table) => place_in(types, table, name),
+        None => field_of_type(row.ty, name),
+    }
+}
+
+fn element_of_number<'a>(types: &'a Types<'a>, number: usize) -> Kind<'a>
+    ensures { kind_shape result ≡ element (shape_of (type_at types.now number)) }
+{
+    let row = types.row(number);
+    match row.element {
+        Some(member) => kind_of_member(types, member),
+        None => element_of_type(row.ty),
+    }
+}
+
+/// The same type, by its number where the circuit declares it. The time is linear in the size of the
+/// text of a type that has no number yet.
+pub(crate) fn numbered<'a>(types: &'a Types<'a>, kind: Kind<'a>) -> Kind<'a>
+    ensures { kind_shape result ≡ kind_shape kind.entry }
+{
+    match kind {
+        Kind::Of(ty) => numbered_type(types, ty),
+        _ => kind,
+    }
+}
+
+fn numbered_type<'a>(types: &'a Types<'a>, ty: &'a Ty) -> Kind<'a>
+    ensures { kind_shape result ≡ shape_of ty.now }
+{
+    match types.list().number_of(ty) {
+        Some(number) => Kind::Numbered { types, number },
+        None => Kind::Of(ty),
     }
 }
 

@@ -14,6 +14,7 @@
 #![tactic(auto)]
 
 mod counts;
+mod digests;
 mod directory;
 mod examples;
 mod fields;
@@ -29,12 +30,16 @@ mod own_entries;
 mod partners;
 mod parts;
 mod places;
+mod port_rows;
 mod ports;
 mod resolve;
+mod same_type;
 mod scope;
 mod signals;
 mod sizes;
 mod statements;
+mod type_list;
+mod types;
 mod weights;
 mod worth;
 mod writing;

@@ -1,5 +1,5 @@
 //! The limits of an elaboration, judged by counts alone, before anything is built.
-ghost use Rattle.std.specs.Prelude.{◌≡◌, ◌<◌, ℕ, length, IfOk, IfErr};
+ghost use Rattle.std.specs.Prelude.{◌≡◌, ◌<◌, ℕ, length, map, IfOk, IfErr};
 ghost use Rattle.fir_flat.specs.Counts.{cut};
 ghost use Rattle.fir_flat.specs.Modules.{place_of, targets_of, signals_in, Ranked};
 ghost use Rattle.fir_flat.specs.Measures.{weight_in};
@@ -9,8 +9,10 @@ ghost use Rattle.fir_flat.specs.Elaboration.{signals, parts};
 
 use crate::directory::Directory;
 use crate::homes::{Home, capped_counts, count_at, part_homes, signal_homes};
+use crate::port_rows::{PortRow, port_rows};
 use crate::sizes::size_of_ports;
-use fir_ast::Circuit;
+use crate::types::Types;
+use fir_ast::{Circuit, Ty};
 use std::alloc::Global;
 use tb_base::Memory;
 use thiserror::Error;
@@ -82,26 +84,26 @@ pub fn the_counts_are_exact(circuit: &Circuit)
 {}
 
 /// The signals of the elaboration.
-fn count_signals(alloc: Global, circuit: &Circuit) -> Result<u64, Memory>
+fn count_signals(alloc: Global, circuit: &Circuit, modules: &Directory) -> Result<u64, Memory>
+    requires modules { modules.now ≡ circuit.now.modules }
     requires ranked { (rank : ℕ → ℕ) × IsRanked rank circuit.now }
     requires main { place_of circuit.now.modules circuit.now.name < length circuit.now.modules }
     ensures { IfOk result (λ n. n ≡ cut (signals circuit.now)) }
 {
-    let modules = Directory::new(alloc, circuit.modules.items())?;
     let place = modules.place_of(circuit.name.bytes());
-    let signals = signals_of(alloc, &modules, place)?;
+    let signals = signals_of(alloc, modules, place)?;
     Ok(signals)
 }
 
 /// The parts of the elaboration.
-fn count_parts(alloc: Global, circuit: &Circuit) -> Result<u64, Memory>
+fn count_parts(alloc: Global, circuit: &Circuit, modules: &Directory) -> Result<u64, Memory>
+    requires modules { modules.now ≡ circuit.now.modules }
     requires ranked { (rank : ℕ → ℕ) × IsRanked rank circuit.now }
     requires main { place_of circuit.now.modules circuit.now.name < length circuit.now.modules }
     ensures { IfOk result (λ n. n ≡ cut (parts circuit.now)) }
 {
-    let modules = Directory::new(alloc, circuit.modules.items())?;
     let place = modules.place_of(circuit.name.bytes());
-    let parts = parts_of(alloc, &modules, place)?;
+    let parts = parts_of(alloc, modules, place)?;
     Ok(parts)
 }
 
@@ -114,15 +116,59 @@ pub fn check_limits(alloc: Global, circuit: &Circuit) -> Result<(), FlatFault>
     ensures ok { IfOk result (λ unit. Fits circuit.now) }
     ensures err { IfErr result (λ fault. Passes circuit.now fault) }
 {
-    let modules = Directory::new(alloc, circuit.modules.items())?;
+    let plain = Ty::UInt(None);
+    let types = Types::new(alloc, circuit.modules.items(), &plain)?;
+    check_by_types(alloc, circuit, &types)
+}
+
+/// `check_limits`, where the types that the circuit declares are known.
+fn check_by_types(alloc: Global, circuit: &Circuit, types: &Types) -> Result<(), FlatFault>
+    requires ranked { (rank : ℕ → ℕ) × IsRanked rank circuit.now }
+    requires main { place_of circuit.now.modules circuit.now.name < length circuit.now.modules }
+    ensures ok { IfOk result (λ unit. Fits circuit.now) }
+    ensures err { IfErr result (λ fault. Passes circuit.now fault) }
+{
+    let ports = port_rows(alloc, types, circuit.modules.items())?;
+    check_by_ports(alloc, circuit, types, &ports)
+}
+
+/// `check_limits`, where the ports of each module are known besides.
+fn check_by_ports(
+    alloc: Global,
+    circuit: &Circuit,
+    types: &Types,
+    ports: &[PortRow],
+) -> Result<(), FlatFault>
+    requires ports { ports.now ≡ map (λ m. m.ports) circuit.now.modules }
+    requires ranked { (rank : ℕ → ℕ) × IsRanked rank circuit.now }
+    requires main { place_of circuit.now.modules circuit.now.name < length circuit.now.modules }
+    ensures ok { IfOk result (λ unit. Fits circuit.now) }
+    ensures err { IfErr result (λ fault. Passes circuit.now fault) }
+{
+    let modules = Directory::new(alloc, circuit.modules.items(), types, ports)?;
+    judge_limits(alloc, circuit, &modules)
+}
+
+/// Whether the elaboration stays within the limits, where these are the circuit's modules.
+pub(crate) fn judge_limits(
+    alloc: Global,
+    circuit: &Circuit,
+    modules: &Directory,
+) -> Result<(), FlatFault>
+    requires modules { modules.now ≡ circuit.now.modules }
+    requires ranked { (rank : ℕ → ℕ) × IsRanked rank circuit.now }
+    requires main { place_of circuit.now.modules circuit.now.name < length circuit.now.modules }
+    ensures ok { IfOk result (λ unit. Fits circuit.now) }
+    ensures err { IfErr result (λ fault. Passes circuit.now fault) }
+{
     let place = modules.place_of(circuit.name.bytes());
     if size_of_ports(modules.ports_at(place)) > 256 {
         return Err(FlatFault::TooManyPorts);
     }
-    if count_signals(alloc, circuit)? > 65_536 {
+    if count_signals(alloc, circuit, modules)? > 65_536 {
         return Err(FlatFault::TooManySignals);
     }
-    if count_parts(alloc, circuit)? > 4_194_304 {
+    if count_parts(alloc, circuit, modules)? > 4_194_304 {
         return Err(FlatFault::TooManyParts);
     }
     Ok(())

@@ -89,7 +89,7 @@ fn list_instance<'a>(
     ensures { OnOk result (Declares known.old known.new listed.old listed.new (instance modules.now name.now target.now listed.old.next) (opened (opened_at name.now (place_of modules.now target.now) listed.old.next prefix.now) ∷ []) (signals_in modules.now (place_of modules.now target.now))) }
 {
     let place = modules.place_of(target);
-    let ports = modules.ports_at(place);
+    let kind = modules.instance_at(place);
     let count = exact(count_at(counts, place))?;
     let first = listed.next;
     let inner = inner_prefix(alloc, prefix, name)?;
@@ -102,7 +102,7 @@ fn list_instance<'a>(
     listed.next = plus(first, count)?;
     known.push(Known {
         name,
-        kind: Kind::Ports(ports),
+        kind,
         flow: Flow::Source,
         first,
     })?;

@@ -1,21 +1,22 @@
 //! What a module counts itself, without its instances: its signals, its parts, and which modules its
 //! instances are of.
-ghost use Rattle.std.specs.Prelude.{◌≡◌, ◌+◌, ◌*◌, ◌++◌, ◌∷◌, [], ℕ, OnOk, IfOk, length, take, map};
+ghost use Rattle.std.specs.Prelude.{◌≡◌, ◌≤◌, ◌+◌, ◌*◌, ◌++◌, ◌∷◌, [], true, ℕ, OnOk, IfOk, length, take, map};
 ghost use Rattle.fir_flat.specs.Bodies.{statement, body_of};
 ghost use Rattle.fir_flat.specs.Modules.{unplaced, own_signals, targets};
-ghost use Rattle.fir_flat.specs.Measures.{Measure, connect_weight, driven, reached, reset_weight, own_weight};
+ghost use Rattle.fir_flat.specs.Measures.{Measure, measure, connect_weight, driven, reached, reset_weight, own_weight};
 ghost use Rattle.fir_flat.specs.Values.{bound};
 ghost use Rattle.fir_flat.specs.Counts.{cut};
 ghost use Rattle.fir_flat.specs.Kinds.{kind_shape, seen, Weighs};
 ghost use Rattle.fir_flat.specs.Tallies.{Moves, Tallies};
 
-use crate::counts::{product, sum};
+use crate::counts::{CUT, product, sum};
 use crate::directory::Directory;
 use crate::kinds::{Flow, Kind, Known};
 use crate::scope::Scope;
 use crate::sizes::{size_of, size_of_ports};
+use crate::types::Types;
 use crate::weights::{Weight, weigh};
-use fir_ast::{Module, Port, ResetPair, Stmt};
+use fir_ast::{Expr, Module, Port, ResetPair, Stmt};
 use std::alloc::Global;
 use tb_base::Memory;
 
@@ -28,6 +29,13 @@ pub(crate) struct Tally {
 }
 
 impl Tally {
+    /// Whether the parts are past the limit, so that no further ones count.
+    fn is_over(&self) -> bool
+        ensures { result ≡ true → 4194305 ≤ self.now.parts }
+    {
+        self.parts >= CUT
+    }
+
     fn add(&mut self, signals: u64, parts: u64)
         ensures signals { self.new.signals ≡ cut (self.old.signals + signals) }
         ensures parts { self.new.parts ≡ cut (self.old.parts + parts) }
@@ -126,6 +134,35 @@ fn weigh_reset(known: &Scope, reset: &Option<ResetPair>) -> u64
     }
 }
 
+/// Counts a connect. Where the parts are past the limit, its aggregates aren't gone over.
+fn count_connect(known: &Scope, sink: &Expr, value: &Expr, tally: &mut Tally)
+    ensures signals { tally.new.signals ≡ cut (tally.old.signals + 0) }
+    ensures parts { tally.new.parts ≡ cut (tally.old.parts + connect_weight (measure (seen known.now) sink.now) (measure (seen known.now) value.now)) }
+    ensures instances { tally.new.instances ≡ tally.old.instances }
+{
+    if tally.is_over() {
+        tally.add(0, 0);
+        return;
+    }
+    let sink = weigh(known, sink);
+    let value = weigh(known, value);
+    tally.add(0, connect_weight(sink, value));
+}
+
+/// Counts an invalidation, as `count_connect`.
+fn count_invalid(known: &Scope, sink: &Expr, tally: &mut Tally)
+    ensures signals { tally.new.signals ≡ cut (tally.old.signals + 0) }
+    ensures parts { tally.new.parts ≡ cut (tally.old.parts + reached (measure (seen known.now) sink.now) * driven (measure (seen known.now) sink.now) 0) }
+    ensures instances { tally.new.instances ≡ tally.old.instances }
+{
+    if tally.is_over() {
+        tally.add(0, 0);
+        return;
+    }
+    let sink = weigh(known, sink);
+    tally.add(0, invalid_weight(sink));
+}
+
 /// Counts one statement, and knows what it declares.
 #[cycle(count_own)]
 fn count_stmt<'a>(
@@ -174,8 +211,8 @@ fn count_stmt<'a>(
             let place = modules.place_of(module.bytes());
             tally.add(0, 1);
             tally.instances.push(place)?;
-            let ports = Kind::Ports(modules.ports_at(place));
-            declare(known, name.bytes(), ports, Flow::Source)?;
+            let kind = modules.instance_at(place);
+            declare(known, name.bytes(), kind, Flow::Source)?;
             Ok(())
         }
         Stmt::Connect {
@@ -183,14 +220,11 @@ fn count_stmt<'a>(
             sink,
             value,
         } => {
-            let sink = weigh(known, sink);
-            let value = weigh(known, value);
-            tally.add(0, connect_weight(sink, value));
+            count_connect(known, sink, value, tally);
             Ok(())
         }
         Stmt::Invalid { line: _, sink } => {
-            let sink = weigh(known, sink);
-            tally.add(0, invalid_weight(sink));
+            count_invalid(known, sink, tally);
             Ok(())
         }
         Stmt::When {
@@ -239,10 +273,14 @@ fn count_block<'a>(
 }
 
 /// The names of the ports.
-fn known_ports<'a>(alloc: Global, ports: &'a [Port]) -> Result<Scope<'a>, Memory>
+fn known_ports<'a>(
+    alloc: Global,
+    types: &'a Types<'a>,
+    ports: &'a [Port],
+) -> Result<Scope<'a>, Memory>
     ensures { IfOk result (λ known. seen known ≡ map unplaced ports.now) }
 {
-    let mut known = Scope::new(alloc);
+    let mut known = Scope::new(alloc, types);
     for port in ports {
         let flow = if port.output {
             Flow::Sink
@@ -269,7 +307,7 @@ pub(crate) fn tally_of<'a>(
     ensures parts { IfOk result (λ t. cut t.parts ≡ cut (own_weight modules.now home.now)) }
     ensures targets { IfOk result (λ t. t.instances.items ≡ targets modules.now (body_of home.now.body)) }
 {
-    let mut known = known_ports(alloc, home.ports.items())?;
+    let mut known = known_ports(alloc, modules.types(), home.ports.items())?;
     let size = size_of_ports(home.ports.items());
     let mut tally = Tally {
         signals: size,

@@ -11,6 +11,7 @@ use crate::kinds::{Flow, Kind, Known};
 use crate::ports::put_ports;
 use crate::scope::Scope;
 use crate::sizes::size_of;
+use crate::types::Types;
 use crate::worth::plus;
 use crate::writing::write_block;
 use fir_ast::Port;
@@ -27,13 +28,14 @@ pub(crate) struct PortNames<'a> {
 
 pub(crate) fn name_ports<'a>(
     alloc: Global,
+    types: &'a Types<'a>,
     ports: &'a [Port],
     first: u32,
 ) -> Result<PortNames<'a>, Memory>
     ensures known { IfOk result (λ names. seen names.known ≡ ports_known first ports.now) }
     ensures next { IfOk result (λ names. names.next ≡ first + size (ports_shape ports.now)) }
 {
-    let mut known = Scope::new(alloc);
+    let mut known = Scope::new(alloc, types);
     let mut next = first;
     for port in ports {
         let flow = if port.output {
@@ -68,7 +70,7 @@ pub(crate) fn write_own(
 {
     let ports = modules.ports_at(place);
     put_ports(alloc, ports, top, true, first, out)?;
-    let mut names = name_ports(alloc, ports, first)?;
+    let mut names = name_ports(alloc, modules.types(), ports, first)?;
     let next = names.next;
     let body = modules.body_at(place);
     let written = write_block(alloc, modules, counts, body, &mut names.known, next)?;

@@ -67,7 +67,7 @@ pub(crate) fn list_own(
     let ports = modules.ports_at(opening.target);
     let mut entries = Vec::new(alloc);
     list_ports(alloc, opening, ports, &mut entries)?;
-    let mut names = name_ports(alloc, ports, opening.first)?;
+    let mut names = name_ports(alloc, modules.types(), ports, opening.first)?;
     let next = names.next;
     let mut listed = Listed { next, entries };
     let body = modules.body_at(opening.target);

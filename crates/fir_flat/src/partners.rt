@@ -6,7 +6,6 @@ ghost use Rattle.fir_flat.specs.Kinds.{kind_shape};
 ghost use Rattle.fir_flat.specs.Parts.{partners_behind};
 
 use crate::counts::exact;
-use crate::fields::Fields;
 use crate::kinds::Kind;
 use crate::worth::{plus, times};
 use fir_ast::{Field, Port, Ty};
@@ -16,13 +15,7 @@ use tb_base::Memory;
 /// Adds the counterparts of a type's ground parts in another type, which stands behind so many
 /// ground parts.
 #[cycle(partners)]
-fn put_partners(
-    alloc: Global,
-    ty: &Ty,
-    other: Kind,
-    before: u32,
-    out: &mut Vec<u32>,
-) -> Result<(), Memory>
+fn put_partners(ty: &Ty, other: Kind, before: u32, out: &mut Vec<u32>) -> Result<(), Memory>
     ensures { OnOk result (out.new.items ≡ out.old.items ++ partners_behind before (shape_of ty.now) (kind_shape other.entry)) }
 {
     match ty {
@@ -30,13 +23,13 @@ fn put_partners(
         Ty::SInt(_) => put_partner(before, out),
         Ty::Clock => Ok(()),
         Ty::Reset => put_partner(before, out),
-        Ty::Bundle(fields) => put_field_partners(alloc, fields.as_slice(), other, before, out),
+        Ty::Bundle(fields) => put_field_partners(fields.as_slice(), other, before, out),
         Ty::Vector(of, len) => {
             let element = other.element();
             let size = exact(element.size())?;
             for number in 0..*len {
                 let place = plus(before, times(number, size)?)?;
-                put_partners(alloc, of.get(), element, place, out)?;
+                put_partners(of.get(), element, place, out)?;
             }
             Ok(())
         }
@@ -59,7 +52,6 @@ fn behind(before: u32, place: u64) -> Result<u32, Memory>
 
 #[cycle(partners)]
 fn put_field_partners(
-    alloc: Global,
     fields: &[Field],
     other: Kind,
     before: u32,
@@ -67,42 +59,38 @@ fn put_field_partners(
 ) -> Result<(), Memory>
     ensures { OnOk result (out.new.items ≡ out.old.items ++ partners_behind before (fields_shape fields.now) (kind_shape other.entry)) }
 {
-    let others = Fields::new(alloc, other, fields.len())?;
     for field in fields {
-        let place = others.find(field.name.bytes());
+        let place = other.field(field.name.bytes());
         let start = behind(before, place.before)?;
-        put_partners(alloc, &field.ty, place.of, start, out)?;
+        put_partners(&field.ty, place.of, start, out)?;
     }
     Ok(())
 }
 
-fn put_port_partners(
-    alloc: Global,
-    ports: &[Port],
-    other: Kind,
-    out: &mut Vec<u32>,
-) -> Result<(), Memory>
+fn put_port_partners(ports: &[Port], other: Kind, out: &mut Vec<u32>) -> Result<(), Memory>
     ensures { OnOk result (out.new.items ≡ out.old.items ++ partners_behind 0 (ports_shape ports.now) (kind_shape other.entry)) }
 {
-    let others = Fields::new(alloc, other, ports.len())?;
     for port in ports {
-        let place = others.find(port.name.bytes());
+        let place = other.field(port.name.bytes());
         let start = behind(0, place.before)?;
-        put_partners(alloc, &port.ty, place.of, start, out)?;
+        put_partners(&port.ty, place.of, start, out)?;
     }
     Ok(())
 }
 
 /// The places of the counterparts of a type's ground parts in another. The time is linear in their
-/// number and in the size of both types' texts, but for the look-ups of fields; in bundles of many
-/// fields they go by a table.
+/// number and in the size of the first type's text, but where a bundle in the other one has no number:
+/// there each of its fields is looked for.
 pub(crate) fn partners_of(alloc: Global, kind: Kind, other: Kind) -> Result<Vec<u32>, Memory>
     ensures { IfOk result (λ places. places.items ≡ partners (kind_shape kind.entry) (kind_shape other.entry)) }
 {
     let mut places = Vec::new(alloc);
     match kind {
-        Kind::Of(ty) => put_partners(alloc, ty, other, 0, &mut places)?,
-        Kind::Ports(ports) => put_port_partners(alloc, ports, other, &mut places)?,
+        Kind::Of(ty) => put_partners(ty, other, 0, &mut places)?,
+        Kind::Numbered { types, number } => {
+            put_partners(types.ty(number), other, 0, &mut places)?
+        }
+        Kind::Ports(ports) => put_port_partners(ports.ports(), other, &mut places)?,
         Kind::Number(_) => put_partner(0, &mut places)?,
         Kind::Empty => {}
     }

@@ -80,7 +80,8 @@ pub(crate) fn parts_of_kind(alloc: Global, kind: Kind) -> Result<Vec<Part>, Memo
     let mut parts = Vec::new(alloc);
     match kind {
         Kind::Of(ty) => put_parts(ty, false, &mut parts)?,
-        Kind::Ports(ports) => put_ports(ports, &mut parts)?,
+        Kind::Numbered { types, number } => put_parts(types.ty(number), false, &mut parts)?,
+        Kind::Ports(ports) => put_ports(ports.ports(), &mut parts)?,
         Kind::Number(signed) => put_part(false, signed, None, &mut parts)?,
         Kind::Empty => {}
     }

@@ -34,8 +34,8 @@ struct Operands {
     worths: Vec<Worth>,
 }
 
-/// Looks up the names and places of an expression. The time is linear in its size, but for fields of
-/// what isn't a declared name, which are gone over.
+/// Looks up the names and places of an expression. The time is linear in its size, but for the
+/// look-ups of fields and the ground parts of muxes.
 #[cycle(resolve)]
 pub(crate) fn resolve<'a>(
     alloc: Global,
@@ -184,7 +184,7 @@ fn put_in_place<'a>(
     part_behind(alloc, of, place.of, flow, before)
 }
 
-/// A field of an expression. The time is linear in the size of its type's text.
+/// A field of an expression. The time is that of a look-up.
 fn resolve_field<'a>(alloc: Global, of: Resolved<'a>, name: &[u8]) -> Result<Resolved<'a>, Memory>
     ensures { IfOk result (λ r. resolved r ≡ field_of name.now (resolved of.entry)) }
 {

@@ -5,9 +5,9 @@ ghost use Rattle.fir_flat.specs.Shapes.{field_named};
 ghost use Rattle.fir_flat.specs.Kinds.{bound_of, seen, Finds};
 ghost use Rattle.fir_flat.specs.Scopes.{first_place, is_at};
 
-use crate::fields::Fields;
-use crate::kinds::{Flow, Kind, Known, Place, nowhere};
+use crate::kinds::{Flow, Kind, Known, Place, numbered};
 use crate::places::NamePlaces;
+use crate::types::Types;
 use std::alloc::Global;
 use std::marker::Model;
 use tb_base::Memory;
@@ -17,10 +17,10 @@ use tb_base::Memory;
 /// nothing: a place counts only where its name stands there.
 #[derive(Drop)]
 pub(crate) struct Scope<'a> {
-    alloc: Global,
+    types: &'a Types<'a>,
     known: Vec<Known<'a>>,
-    /// The fields of each name's type, and maybe some of names that aren't known any more.
-    fields: Vec<Fields<'a>>,
+    /// Each name's type, and maybe some of names that aren't known any more.
+    kinds: Vec<Kind<'a>>,
     places: NamePlaces<'a>,
 }
 
@@ -34,22 +34,22 @@ impl<'a> Model for Scope<'a> {
 
     ghost coded = { Prim.hlevel (codes, ty.the_row.coded) };
 
-    ghost use Rattle.fir_flat.specs.Fields.{IsScope};
+    ghost use Rattle.fir_flat.specs.KnownNames.{IsScope};
 
     ghost view = { λ s. s.known.items };
 
-    ghost invariant = { λ s. IsScope s.known.items s.fields.items s.places };
+    ghost invariant = { λ s. IsScope s.known.items s.kinds.items s.places };
 }
 
 impl<'a> Scope<'a> {
     /// No names. Takes no memory.
-    pub(crate) fn new(alloc: Global) -> Scope<'a>
+    pub(crate) fn new(alloc: Global, types: &'a Types<'a>) -> Scope<'a>
         ensures { result ≡ [] }
     {
         Scope {
-            alloc,
+            types,
             known: Vec::new(alloc),
-            fields: Vec::new(alloc),
+            kinds: Vec::new(alloc),
             places: NamePlaces::new(alloc),
         }
     }
@@ -83,7 +83,11 @@ impl<'a> Scope<'a> {
         ensures { bound_of result ≡ bound_named name.now (seen self.now) }
     {
         match self.place(name) {
-            Some(place) => self.known[place],
+            Some(place) => {
+                let known = self.known[place];
+                let kind = self.kinds[place];
+                Known { kind, ..known }
+            }
             None => Known {
                 name: b"",
                 kind: Kind::Empty,
@@ -93,26 +97,22 @@ impl<'a> Scope<'a> {
         }
     }
 
-    /// A field of the first of that name. The time is that of a look-up; for a node or an instance it
-    /// is linear in the size of its type's text.
+    /// A field of the first of that name. The time is that of a look-up.
     pub(crate) fn field(&self, name: &[u8], field: &[u8]) -> Place<'a>
         ensures { Finds (field_named field.now (bound_named name.now (seen self.now)).ty) result }
     {
-        match self.place(name) {
-            Some(place) => self.fields[place].find(field),
-            None => nowhere(),
-        }
+        self.find(name).kind.field(field)
     }
 
     /// A further name. The time is that of a look-up, and linear in the size of the type's text where
-    /// that stands in the declaration.
+    /// that has no number yet, as in a declaration.
     pub(crate) fn push(&mut self, known: Known<'a>) -> Result<(), Memory>
         ensures { OnOk result (self.new ≡ self.old ++ known.entry ∷ []) }
     {
         let is_first = self.place(known.name).is_none();
-        let fields = Fields::of_name(self.alloc, known)?;
-        self.fields.truncate(self.known.len());
-        self.fields.push(fields)?;
+        let kind = numbered(self.types, known.kind);
+        self.kinds.truncate(self.known.len());
+        self.kinds.push(kind)?;
         self.places.give(is_first, known.name, self.known.len())?;
         self.known.push(known)?;
         Ok(())

@@ -165,7 +165,10 @@ pub(crate) fn put_kind_signals(
 {
     match kind {
         Kind::Of(ty) => put_signals(alloc, declared, name, false, ty, out),
-        Kind::Ports(ports) => put_port_signals(alloc, declared, name, ports, out),
+        Kind::Numbered { types, number } => {
+            put_signals(alloc, declared, name, false, types.ty(number), out)
+        }
+        Kind::Ports(ports) => put_port_signals(alloc, declared, name, ports.ports(), out),
         Kind::Number(signed) => put_signal(alloc, declared, name, false, signed, None, out),
         Kind::Empty => Ok(()),
     }

@@ -51,8 +51,8 @@ impl<'a> Operands<'a> {
     }
 }
 
-/// Weighs an expression. The time is linear in the size of the expression, but for fields of what
-/// isn't a declared name, which are gone over.
+/// Weighs an expression. The time is linear in the size of the expression, but for the look-ups of
+/// fields.
 #[cycle(weigh)]
 pub(crate) fn weigh<'a>(known: &Scope<'a>, expr: &Expr) -> Weight<'a>
     ensures { Weighs (measure (seen known.now) expr.now) result }
@@ -149,7 +149,7 @@ fn weigh_in_place<'a>(of: Weight<'a>, field: Place<'a>) -> Weight<'a>
     }
 }
 
-/// A field of an expression. The time is linear in the size of its type's text.
+/// A field of an expression. The time is that of a look-up.
 fn weigh_field<'a>(of: Weight<'a>, name: &[u8]) -> Weight<'a>
     ensures { (m : Measure) → Weighs m of.entry → Weighs (field_measure (field_named name.now m.ty) m) result }
 {

@@ -149,7 +149,7 @@ fn write_instance<'a>(
     written.next = plus(first, count)?;
     known.push(Known {
         name,
-        kind: Kind::Ports(ports),
+        kind: modules.instance_at(place),
         flow: Flow::Source,
         first,
     })?;

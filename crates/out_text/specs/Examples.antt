@@ -1,7 +1,7 @@
 -- Worked examples on a circuit that adds two numbers of eight bits.
 use Rattle.std.specs.Prelude.{◌≡◌, ◌-◌, ◌^◌, true, false, ◌++◌, [], ◌∷◌, Some, codes}
 use Rattle.tb_base.specs.declared.path.Region.TheVariants.{Main}
-use Rattle.bench_core.specs.declared.run.Outcome.TheVariants.{Failed}
+use Rattle.bench_core.specs.declared.run.Outcome.TheVariants.{Failed, TimeLimit}
 use Rattle.bench_core.specs.Examples.{adder, adder_run, delay}
 use Rattle.out_text.specs.Report.{report_text, number_text}
 use Rattle.out_text.specs.Summary.{summary_text}
@@ -26,6 +26,9 @@ pub record ReportExamples : Type 0 where
     outcome = Failed 0;
   }) ≡ codes "circuit Add\n" ++ (codes "0 / 1 expect out = 0 wanted 1\n"
       ++ codes "failed at 0 after 2 actions, 1 records\n")
+  -- a run that is at its limit of time steps
+  pub of_a_limit : report_text adder (record { observations = []; actions = 2; outcome = TimeLimit 65535 }) ≡
+      codes "circuit Add\nlimit time steps at 65535\n"
   -- the same bits at a signed port and at an unsigned one
   pub of_minus_eight : number_text true (2 ^ 128 - 8) ≡ codes "-8"
   pub of_the_greatest : number_text true (2 ^ 127 - 1) ≡ codes "170141183460469231731687303715884105727"

@@ -7,7 +7,7 @@ use Rattle.net_core.specs.declared.tree.SignalInfo.{SignalInfo}
 use Rattle.net_core.specs.Signals.{info}
 use Rattle.bench_core.specs.declared.run.Observation.{Observation}
 use Rattle.bench_core.specs.declared.run.Outcome.{Outcome}
-use Rattle.bench_core.specs.declared.run.Outcome.TheVariants.{Failed, Finished}
+use Rattle.bench_core.specs.declared.run.Outcome.TheVariants.{Failed, Finished, TimeLimit}
 use Rattle.bench_core.specs.declared.run.Run.{Run}
 
 -- a number of 128 bits in decimal digits. That of a signed port counts its first bit as -2 ^ 127: 2 ^ 128 - 8 is -8
@@ -37,28 +37,20 @@ seen_text port o =
 abbrev pub record_text : List SignalInfo → Observation → List ℕ
 record_text signals o = where_text o ++ (codes " " ++ (seen_text (info signals o.port.0) o ++ codes "\n"))
 
--- the word for how a run ended
-abbrev pub ending : Outcome → List ℕ
-ending (Failed time) = codes "failed"
-ending (Finished time) = codes "finished"
-
--- the time step in which it did
-abbrev pub end_time : Outcome → ℕ
-end_time (Failed time) = time
-end_time (Finished time) = time
-
--- how a run ended, and in which time step: `finished at 1`
-abbrev pub ending_text : Outcome → List ℕ
-ending_text outcome = ending outcome ++ (codes " at " ++ decimal (end_time outcome))
-
--- the outcome: `finished at 1 after 7 actions, 2 records`
-abbrev pub outcome_text : Run → List ℕ
-outcome_text run =
-    ending_text run.outcome ++ (codes " after " ++ (decimal run.actions
+-- a time step, and how much there was: `1 after 7 actions, 2 records`
+abbrev pub counts_text : ℕ → Run → List ℕ
+counts_text time run =
+    decimal time ++ (codes " after " ++ (decimal run.actions
     ++ (codes " actions, " ++ (decimal (length run.observations) ++ codes " records\n"))))
+
+-- how a run ended: `finished at 1 after 7 actions, 2 records`, or `limit time steps at 65535`
+abbrev pub outcome_text : Outcome → Run → List ℕ
+outcome_text (Failed time) run = codes "failed at " ++ counts_text time run
+outcome_text (Finished time) run = codes "finished at " ++ counts_text time run
+outcome_text (TimeLimit time) run = codes "limit time steps at " ++ (decimal time ++ codes "\n")
 
 -- the whole report: the circuit's name, the records in order, the outcome
 unfoldable pub report_text : Elab → Run → List ℕ
 report_text e run =
     codes "circuit " ++ (e.name ++ (codes "\n"
-    ++ (flat_map (record_text e.signals) run.observations ++ outcome_text run)))
+    ++ (flat_map (record_text e.signals) run.observations ++ outcome_text run.outcome run)))

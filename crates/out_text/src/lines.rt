@@ -2,9 +2,10 @@
 //!
 //! A report is a list of lines: the circuit's name, each record in order, and the outcome. Each
 //! printer here puts one definition of `specs/Report.antt` behind the text so far.
-ghost use Rattle.std.specs.Prelude.{◌≡◌, ◌++◌, OnOk, IfOk, flat_map};
+ghost use Rattle.std.specs.Prelude.{◌≡◌, ◌++◌, codes, OnOk, IfOk, flat_map};
+ghost use Rattle.std.specs.Fmt.{decimal};
 ghost use Rattle.net_core.specs.Signals.{info};
-ghost use Rattle.out_text.specs.Report.{number_text, verb, wanted_text, where_text, seen_text, record_text, ending, end_time, ending_text, outcome_text, report_text};
+ghost use Rattle.out_text.specs.Report.{number_text, verb, wanted_text, where_text, seen_text, record_text, counts_text, outcome_text, report_text};
 
 use bench_core::{Observation, Outcome, Run};
 use net_core::SignalInfo;
@@ -127,41 +128,11 @@ fn put_records(
     Ok(())
 }
 
-/// The word for how a run ended.
-fn ending(outcome: Outcome) -> &'static [u8]
-    ensures { result.now ≡ ending outcome }
+/// Puts a time step, and how many actions and records the run has.
+fn put_counts(alloc: Global, out: &mut Vec<u8>, time: u32, run: &Run) -> Result<(), Memory>
+    ensures { OnOk result (out.new.items ≡ out.old.items ++ counts_text time run.now) }
 {
-    match outcome {
-        Outcome::Failed { .. } => b"failed",
-        Outcome::Finished { .. } => b"finished",
-    }
-}
-
-/// The time step in which a run ended.
-fn end_time(outcome: Outcome) -> u32
-    ensures { result ≡ end_time outcome }
-{
-    match outcome {
-        Outcome::Failed { time } => time,
-        Outcome::Finished { time } => time,
-    }
-}
-
-/// Puts how a run ended, and in which time step.
-fn put_ending(alloc: Global, out: &mut Vec<u8>, outcome: Outcome) -> Result<(), Memory>
-    ensures { OnOk result (out.new.items ≡ out.old.items ++ ending_text outcome) }
-{
-    put(out, ending(outcome))?;
-    put(out, b" at ")?;
-    put_decimal(alloc, out, u128::from(end_time(outcome)))?;
-    Ok(())
-}
-
-/// Puts the line of the outcome.
-fn put_outcome(alloc: Global, out: &mut Vec<u8>, run: &Run) -> Result<(), Memory>
-    ensures { OnOk result (out.new.items ≡ out.old.items ++ outcome_text run.now) }
-{
-    put_ending(alloc, out, run.outcome)?;
+    put_decimal(alloc, out, u128::from(time))?;
     put(out, b" after ")?;
     put_decimal(alloc, out, u128::from(run.actions))?;
     put(out, b" actions, ")?;
@@ -170,10 +141,46 @@ fn put_outcome(alloc: Global, out: &mut Vec<u8>, run: &Run) -> Result<(), Memory
     Ok(())
 }
 
+/// Puts the line of the limit of time steps.
+fn put_limit(alloc: Global, out: &mut Vec<u8>, time: u32) -> Result<(), Memory>
+    ensures { OnOk result (out.new.items ≡ out.old.items ++ (codes "limit time steps at " ++ (decimal time ++ codes "\n"))) }
+{
+    put(out, b"limit time steps at ")?;
+    put_decimal(alloc, out, u128::from(time))?;
+    put(out, b"\n")?;
+    Ok(())
+}
+
+/// Puts the line of a run that came to an end in a time step, behind the words for how.
+fn put_end(
+    alloc: Global,
+    out: &mut Vec<u8>,
+    ending: &[u8],
+    time: u32,
+    run: &Run,
+) -> Result<(), Memory>
+    ensures { OnOk result (out.new.items ≡ out.old.items ++ (ending.now ++ counts_text time run.now)) }
+{
+    put(out, ending)?;
+    put_counts(alloc, out, time, run)?;
+    Ok(())
+}
+
+/// Puts the line of the outcome.
+fn put_outcome(alloc: Global, out: &mut Vec<u8>, run: &Run) -> Result<(), Memory>
+    ensures { OnOk result (out.new.items ≡ out.old.items ++ outcome_text run.now.outcome run.now) }
+{
+    match run.outcome {
+        Outcome::Failed { time } => put_end(alloc, out, b"failed at ", time, run),
+        Outcome::Finished { time } => put_end(alloc, out, b"finished at ", time, run),
+        Outcome::TimeLimit { time } => put_limit(alloc, out, time),
+    }
+}
+
 /// The report of a run on a circuit.
 ///
 /// Its first line is the circuit's name, then come the records of the run in order, each a line,
-/// and last how the run ended, with the numbers of actions and records. Values are decimal, those of
+/// and last how the run ended: with the numbers of actions and records, or at which limit. Values are decimal, those of
 /// a signed port with their sign. The one refusal is want of memory. The cost is linear in the length
 /// of the text.
 #[tactic(auto, unfolding(crate::specs::Report::report_text))]

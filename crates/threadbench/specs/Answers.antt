@@ -15,11 +15,11 @@ use Rattle.design_core.specs.declared.stages.BuildFault.TheVariants as stage
 use Rattle.design_core.specs.Built.{BuildRefusal, Faulty, Breaks, TooManyPorts, TooManySignals, TooManyParts, TooWide, BadRange, NotInitialised, Looped}
 use Rattle.threadbench.specs.Forms.{Refusal, Unbuilt}
 use Rattle.threadbench.specs.Refusals.{refusal_text}
-use Rattle.threadbench.specs.declared.layers.CircuitFault.{CircuitFault}
-use Rattle.threadbench.specs.declared.layers.CircuitFault.TheVariants as fault
+use Rattle.threadbench.specs.declared.layers.TextFault.{TextFault}
+use Rattle.threadbench.specs.declared.layers.TextFault.TheVariants as fault
 
 -- a text is refused with its line; want of memory says nothing of it
-abbrev pub Answers : {A : Type 0} → Result A Refusal → CircuitFault → Type 0
+abbrev pub Answers : {A : Type 0} → Result A Refusal → TextFault → Type 0
 Answers outcome (fault.Refused line) = IsErrAnd outcome (λ r. line.items ≡ refusal_text r)
 Answers outcome fault.Memory = Unit {0}
 

@@ -1,14 +1,8 @@
--- What a text is to a command: a circuit, a circuit that runs, or why it is refused; a test with its acts.
-use Rattle.std.specs.Prelude.{ℕ, List, length, nat_lt, if◌then◌else◌, Option, Result, Ok, Err}
-use Rattle.std.specs.Option.{option_and_then}
+-- What a text is to a command: a circuit, a circuit that runs, or why it is refused.
+use Rattle.std.specs.Prelude.{ℕ, List, length, nat_lt, if◌then◌else◌, Result, Ok, Err}
 use Rattle.fir_ast.specs.declared.tree.Circuit.{Circuit}
 use Rattle.net_core.specs.declared.tree.Elab.{Elab}
-use Rattle.net_design.specs.Designs.{ports_of}
 use Rattle.design_core.specs.Built.{BuildRefusal, spelled, built}
-use Rattle.tl_read.specs.declared.tree.TestText.{TestText}
-use Rattle.tl_read.specs.TestForm.{test_of}
-use Rattle.bench_core.specs.declared.act.Act.{Act}
-use Rattle.bench_core.specs.Acts.{acts_of}
 
 -- why the text of a circuit is refused: it has too many bytes, or a stage of building refuses it
 pub data Refusal : Type 0 where
@@ -31,7 +25,3 @@ circuit_in text = if nat_lt circuit_limit (length text) then Err TooLong else to
 -- the circuit that runs, with its signals and widths
 unfoldable pub design_in : List ℕ → Result Elab Refusal
 design_in text = if nat_lt circuit_limit (length text) then Err TooLong else told (built text)
-
--- the acts of a test's text, which are there exactly where the text is a test in the first form for the circuit
-abbrev pub acts_for : Elab → List ℕ → Option (List Act)
-acts_for e text = option_and_then (λ (test : TestText). acts_of (ports_of e) test.body) (test_of text)

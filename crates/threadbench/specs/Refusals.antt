@@ -1,4 +1,4 @@
--- The texts of refusals: one line each.
+-- The texts of refusals of circuits: one line each.
 use Rattle.std.specs.Prelude.{ℕ, List, [], ◌∷◌, ◌++◌, codes, flat_map}
 use Rattle.std.specs.Fmt.{decimal}
 use Rattle.tb_base.specs.declared.place.Place.{Place}
@@ -65,9 +65,13 @@ build_text (BadRange line) = numbered line (codes "bad range")
 build_text (NotInitialised name) = name ++ codes " is not initialised"
 build_text (Looped names) = codes "loop " ++ loop_text names
 
+-- the line that says so much of a text: `circuit: ` or `test: ` stands in front
+abbrev pub refusal_line : List ℕ → List ℕ → List ℕ
+refusal_line of text = of ++ (text ++ 10 ∷ [])
+
 -- what is said of a circuit
 abbrev pub circuit_line : List ℕ → List ℕ
-circuit_line text = codes "circuit: " ++ (text ++ 10 ∷ [])
+circuit_line text = refusal_line (codes "circuit: ") text
 
 -- the text of a circuit's refusal
 unfoldable pub refusal_text : Refusal → List ℕ

@@ -1,11 +1,12 @@
 -- Which commands are refused for their circuit, and which for their test.
-use Rattle.std.specs.Prelude.{ℕ, Bool, false, not, ◌&&◌, List, length, Some, None, Ok, Err, is_some, is_ok, nat_lt}
+use Rattle.std.specs.Prelude.{ℕ, Bool, false, not, List, Some, None, Ok, Err, is_ok}
 use Rattle.std.specs.declared.option.Option.{Option}
 use Rattle.bench_desk.specs.declared.desk.DeskFile.{DeskFile}
 use Rattle.bench_desk.specs.Meaning.{content}
 use Rattle.net_core.specs.declared.tree.Elab.{Elab}
-use Rattle.threadbench.specs.Answer.{RunLine, CommandLine, Run, Check, Fmt, test_limit}
-use Rattle.threadbench.specs.Forms.{circuit_in, design_in, acts_for}
+use Rattle.threadbench.specs.Answer.{RunLine, CommandLine, Run, Check, Fmt}
+use Rattle.threadbench.specs.Forms.{circuit_in, design_in}
+use Rattle.threadbench.specs.TestForms.{acts_in}
 
 -- the text is that of a circuit within its limit that runs
 abbrev pub is_circuit : List ℕ → Bool
@@ -15,9 +16,9 @@ is_circuit text = is_ok (design_in text)
 abbrev pub is_spelled : List ℕ → Bool
 is_spelled text = is_ok (circuit_in text)
 
--- the text is that of a test within its limit and in the first form for the circuit
+-- the text is that of a test within its limit that breaks no rule for the circuit and is in the first form
 abbrev pub is_test : Elab → List ℕ → Bool
-is_test e text = not (nat_lt test_limit (length text)) && is_some (acts_for e text)
+is_test e text = is_ok (acts_in e text)
 
 -- the line's test is held, and is none for the circuit
 abbrev pub refuses_test_of : Elab → RunLine → List DeskFile → Bool

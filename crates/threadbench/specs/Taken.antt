@@ -4,8 +4,9 @@ use Rattle.std.specs.declared.option.Option.{Option}
 use Rattle.bench_desk.specs.declared.desk.DeskFile.{DeskFile}
 use Rattle.bench_desk.specs.declared.desk.Phase.TheVariants.{Reading, Ended}
 use Rattle.bench_desk.specs.Meaning.{Meaning, SlotState, content}
-use Rattle.threadbench.specs.Answer.{RunLine, CommandLine, Run, Check, Fmt, test_limit}
+use Rattle.threadbench.specs.Answer.{RunLine, CommandLine, Run, Check, Fmt}
 use Rattle.threadbench.specs.Forms.{circuit_limit}
+use Rattle.threadbench.specs.TestForms.{test_limit}
 use Rattle.threadbench.specs.Refused.{is_circuit}
 
 -- a slot from which a file was read up to its end, or to one byte past the limit

@@ -7,7 +7,7 @@
 //!
 //!     words     the line that the words are
 //!     reading   a file of the desk, up to its end or to one byte past its limit
-//!     refusal   the line that says why a circuit is refused
+//!     refusal   the line that says why a circuit is refused; test_refusal, why a test is
 //!     layers    from the text of a circuit to its design, and from the text of a test to its actions
 //!     reply     all refusals and the run, with nothing put
 //!     writing   the reply put on the desk
@@ -20,6 +20,7 @@ mod layers;
 mod reading;
 mod refusal;
 mod reply;
+mod test_refusal;
 mod top;
 mod words;
 mod writing;

@@ -1,8 +1,8 @@
-//! The line that says why the text of a circuit is refused.
+//! The line that says why a text is refused: the parts that such lines have, and those of circuits.
 ghost use Rattle.std.specs.Prelude.{◌≡◌, ◌++◌, codes, flat_map, OnOk, IfOk};
 ghost use Rattle.design_core.specs.Built as built;
 ghost use Rattle.threadbench.specs.Forms.{Unbuilt};
-ghost use Rattle.threadbench.specs.Refusals.{form_text, kind_text, numbered, loop_text, circuit_line, refusal_text};
+ghost use Rattle.threadbench.specs.Refusals.{form_text, kind_text, fault_text, numbered, loop_text, refusal_line, circuit_line, refusal_text};
 ghost use Rattle.threadbench.specs.Answers.{LineOfRead, LineOfCheck, LineOfFlat, LineOfWidth, LineOfBuild};
 
 use design_core::BuildFault;
@@ -13,6 +13,9 @@ use fir_widths::WidthFault;
 use std::alloc::Global;
 use tb_base::{Memory, Name, Place, put, put_decimal, put_place};
 use text_grammar::{Form, Kind};
+
+/// What stands in front of what is said of a circuit.
+const CIRCUIT: &[u8] = b"circuit: ";
 
 /// The word of a form that is known and not taken.
 fn form_word(form: Form) -> &'static [u8]
@@ -52,13 +55,12 @@ fn put_kind(out: &mut Vec<u8>, kind: Kind) -> Result<(), Memory>
     }
 }
 
-/// The line of a faulty place.
-#[tactic(auto, unfolding(crate::specs::Refusals::refusal_text))]
-fn fault_line(alloc: Global, kind: Kind, place: Place) -> Result<Vec<u8>, Memory>
-    ensures { IfOk result (λ v. v.items ≡ refusal_text (Unbuilt (built.Faulty kind place))) }
+/// The line of a faulty place, in a text of this kind.
+pub fn fault_line(alloc: Global, of: &[u8], kind: Kind, place: Place) -> Result<Vec<u8>, Memory>
+    ensures { IfOk result (λ v. v.items ≡ refusal_line of.now (fault_text kind place)) }
 {
     let mut out = Vec::new(alloc);
-    put(&mut out, b"circuit: ")?;
+    put(&mut out, of)?;
     put_place(alloc, &mut out, place)?;
     put(&mut out, b": ")?;
     put_kind(&mut out, kind)?;
@@ -66,12 +68,13 @@ fn fault_line(alloc: Global, kind: Kind, place: Place) -> Result<Vec<u8>, Memory
     Ok(out)
 }
 
-/// The line of a rule that a line of the text breaks.
-fn break_line(alloc: Global, line: u32, rule: &[u8]) -> Result<Vec<u8>, Memory>
-    ensures { IfOk result (λ v. v.items ≡ circuit_line (numbered line rule.now)) }
+/// The line of a rule that a line of the text breaks, in a text of this kind.
+pub fn break_line(alloc: Global, of: &[u8], line: u32, rule: &[u8]) -> Result<Vec<u8>, Memory>
+    ensures { IfOk result (λ v. v.items ≡ refusal_line of.now (numbered line rule.now)) }
 {
     let mut out = Vec::new(alloc);
-    put(&mut out, b"circuit: line ")?;
+    put(&mut out, of)?;
+    put(&mut out, b"line ")?;
     put_decimal(alloc, &mut out, u128::from(line))?;
     put(&mut out, b": ")?;
     put(&mut out, rule)?;
@@ -79,12 +82,12 @@ fn break_line(alloc: Global, line: u32, rule: &[u8]) -> Result<Vec<u8>, Memory>
     Ok(out)
 }
 
-/// The line that says so much of a circuit.
-fn plain_line(alloc: Global, text: &[u8]) -> Result<Vec<u8>, Memory>
-    ensures { IfOk result (λ v. v.items ≡ circuit_line text.now) }
+/// The line that says so much of a text of this kind.
+pub fn plain_line(alloc: Global, of: &[u8], text: &[u8]) -> Result<Vec<u8>, Memory>
+    ensures { IfOk result (λ v. v.items ≡ refusal_line of.now text.now) }
 {
     let mut out = Vec::new(alloc);
-    put(&mut out, b"circuit: ")?;
+    put(&mut out, of)?;
     put(&mut out, text)?;
     put(&mut out, b"\n")?;
     Ok(out)
@@ -146,14 +149,20 @@ fn loop_line(alloc: Global, names: &[Name]) -> Result<Vec<u8>, Memory>
 }
 
 /// The line that a fault of reading is answered with.
+#[tactic(auto, unfolding(crate::specs::Refusals::refusal_text))]
 pub fn read_refusal(alloc: Global, fault: ReadFault) -> Result<Vec<u8>, Memory>
     ensures { IfOk result (λ v. LineOfRead fault v.items) }
 {
     match fault {
-        ReadFault::Syntax(place) => fault_line(alloc, Kind::Syntax, place),
-        ReadFault::Unsupported(place, form) => fault_line(alloc, Kind::Unsupported(form), place),
-        ReadFault::NumberTooWide(place) => fault_line(alloc, Kind::NumberTooWide, place),
-        ReadFault::TooDeep(place) => fault_line(alloc, Kind::TooDeep, place),
+        ReadFault::Syntax(place) => fault_line(alloc, CIRCUIT, Kind::Syntax, place),
+        ReadFault::Unsupported(place, form) => fault_line(
+            alloc,
+            CIRCUIT,
+            Kind::Unsupported(form),
+            place,
+        ),
+        ReadFault::NumberTooWide(place) => fault_line(alloc, CIRCUIT, Kind::NumberTooWide, place),
+        ReadFault::TooDeep(place) => fault_line(alloc, CIRCUIT, Kind::TooDeep, place),
         ReadFault::Memory(memory) => Err(memory),
     }
 }
@@ -164,13 +173,13 @@ fn check_refusal(alloc: Global, fault: CheckFault) -> Result<Vec<u8>, Memory>
     ensures { IfOk result (λ v. LineOfCheck fault v.items) }
 {
     match fault {
-        CheckFault::NoMain(line) => break_line(alloc, line, b"no main module"),
-        CheckFault::DoubleName(line) => break_line(alloc, line, b"double name"),
-        CheckFault::UnknownName(line) => break_line(alloc, line, b"unknown name"),
-        CheckFault::WrongKind(line) => break_line(alloc, line, b"wrong kind"),
-        CheckFault::WrongFlow(line) => break_line(alloc, line, b"wrong flow"),
-        CheckFault::ClockUse(line) => break_line(alloc, line, b"clock use"),
-        CheckFault::InstanceCycle(line) => break_line(alloc, line, b"instance cycle"),
+        CheckFault::NoMain(line) => break_line(alloc, CIRCUIT, line, b"no main module"),
+        CheckFault::DoubleName(line) => break_line(alloc, CIRCUIT, line, b"double name"),
+        CheckFault::UnknownName(line) => break_line(alloc, CIRCUIT, line, b"unknown name"),
+        CheckFault::WrongKind(line) => break_line(alloc, CIRCUIT, line, b"wrong kind"),
+        CheckFault::WrongFlow(line) => break_line(alloc, CIRCUIT, line, b"wrong flow"),
+        CheckFault::ClockUse(line) => break_line(alloc, CIRCUIT, line, b"clock use"),
+        CheckFault::InstanceCycle(line) => break_line(alloc, CIRCUIT, line, b"instance cycle"),
         CheckFault::Memory(memory) => Err(memory),
     }
 }
@@ -181,9 +190,9 @@ fn flat_refusal(alloc: Global, fault: FlatFault) -> Result<Vec<u8>, Memory>
     ensures { IfOk result (λ v. LineOfFlat fault v.items) }
 {
     match fault {
-        FlatFault::TooManyPorts => plain_line(alloc, b"too many ports"),
-        FlatFault::TooManySignals => plain_line(alloc, b"too many signals"),
-        FlatFault::TooManyParts => plain_line(alloc, b"too many parts"),
+        FlatFault::TooManyPorts => plain_line(alloc, CIRCUIT, b"too many ports"),
+        FlatFault::TooManySignals => plain_line(alloc, CIRCUIT, b"too many signals"),
+        FlatFault::TooManyParts => plain_line(alloc, CIRCUIT, b"too many parts"),
         FlatFault::Memory(memory) => Err(memory),
     }
 }
@@ -194,8 +203,8 @@ fn width_refusal(alloc: Global, fault: WidthFault) -> Result<Vec<u8>, Memory>
     ensures { IfOk result (λ v. LineOfWidth fault v.items) }
 {
     match fault {
-        WidthFault::TooWide(line) => break_line(alloc, line, b"too wide"),
-        WidthFault::BadRange(line) => break_line(alloc, line, b"bad range"),
+        WidthFault::TooWide(line) => break_line(alloc, CIRCUIT, line, b"too wide"),
+        WidthFault::BadRange(line) => break_line(alloc, CIRCUIT, line, b"bad range"),
         WidthFault::Memory(memory) => Err(memory),
     }
 }

@@ -14,7 +14,8 @@ use Rattle.tl_text.proofs.Texts.{found_spelled}
 spelled_short : (ts : List Item) (x : TestText) → test.spells ts x → length x.body ≤ length ts
 unfolding test_within both stmts_in many nothing
 spelled_short ts x h =
-    let count : length h.2 ≤ length h.0 = many_count begins_stmt (stmt_in expr_limits (block_within expr_limits 32) 8) (stmt_begins expr_limits (block_within expr_limits 32) 8) h.2 h.0 h.5 in
+    let count : length h.2 ≤ length h.0 = many_count begins_stmt (stmt_in expr_limits (block_within expr_limits 32) 8) (stmt_begins
+    expr_limits (block_within expr_limits 32) 8) h.2 h.0 h.5 in
     let whole : length ts ≡ length (h.0 ++ h.1) = ap length h.4 in
     let body : length x.body ≡ length h.2 = ap (λ (t : TestText). length t.body) h.7 in
     omega (arith, count, whole, body, length-append h.0 h.1)

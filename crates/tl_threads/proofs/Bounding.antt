@@ -1,5 +1,5 @@
 -- A test that keeps the rules takes few slots.
-use Rattle.std.proofs.Common.{◌≡◌, ℕ, suc, ◌+◌, ◌-◌, ◌<◌, ◌≤◌, max, List, [], ◌∷◌, ◌++◌, map, length, length-append, Bool, true, false, not, cond, ◌||◌, ◌&&◌, nat_le, Option, Some, None, is_some, Ok, refl, sym, ap, subst, ◌∙◌, arith}
+use Rattle.std.proofs.Common.{◌≡◌, ℕ, suc, ◌+◌, ◌-◌, ◌≤◌, List, [], ◌∷◌, ◌++◌, map, length, length-append, Bool, true, false, not, cond, ◌||◌, ◌&&◌, nat_le, Some, None, is_some, Ok, refl, sym, ap, subst, ◌∙◌, arith}
 use Rattle.std.specs.Str.{bytes_eq}
 use Rattle.std.specs.List.{list_any}
 use Rattle.std.proofs.lemmas.Bool.{leb-false, or_parts}
@@ -21,7 +21,7 @@ use Rattle.tl_threads.specs.Code.{with_name}
 use Rattle.tl_threads.specs.Allowed.{Handles, names_of, most_vars, most_handles, FewSlots}
 use Rattle.tl_threads.proofs.NameFacts.{same_name, name_self}
 use Rattle.tl_threads.proofs.Allowing.{not_false, with_same, names_with}
-use Rattle.tl_threads.proofs.Ruling.{ok_same, left_ok, after_ok, ok_of, Unbroken, Judged, judged}
+use Rattle.tl_threads.proofs.Ruling.{ok_same, left_ok, after_ok, ok_of, Judged, judged}
 
 -- ---- one name more
 
@@ -181,10 +181,11 @@ module _ (ports : Ports) where
   level_bounds (S.Driver l kind p values) g rest n m j f = stays g n m (S.Driver l kind p values) (λ k a. a) (ok_same n m j.1) f
   level_bounds (S.ResetFor l count) g rest n m j f = stays g n m (S.ResetFor l count) (λ k a. a) (ok_same n m j.1) f
   level_bounds (S.Let l x e) g rest n m j f =
-      let same = ok_same (behind_let x n) m j.1 in
-      (subst Few same (record { vars = few_let x n.variables j.0.names f.vars; handles = f.handles }),
-       λ k a. let b : Enough (behind_let x n) k = subst (λ z. Enough z k) (sym same) a in
-         record { vars = subst (λ vs. most_vars k vs ≤ suc most_variables) (with_same x n.variables) b.vars; handles = b.handles })
+      let same = ok_same (behind_let x n) m j.1 in (
+        subst Few same (record { vars = few_let x n.variables j.0.names f.vars; handles = f.handles }),
+        λ k a. let b : Enough (behind_let x n) k = subst (λ z. Enough z k) (sym same) a in
+            record { vars = subst (λ vs. most_vars k vs ≤ suc most_variables) (with_same x n.variables) b.vars; handles = b.handles },
+      )
   level_bounds (S.Set l x e) g rest n m j f =
       let there : is_among x n.variables ≡ true = not_false (is_among x n.variables) (or_parts (list_any (uses_unknown n.variables) (e ∷ [])) (sets_unknown n.variables (Some x)) j.0.variable).1 in
       let same : with_name n.variables x ≡ n.variables = sym (with_same x n.variables) ∙ ap (λ b. cond b n.variables (n.variables ++ x ∷ [])) there in
@@ -208,12 +209,13 @@ module _ (ports : Ports) where
       let r : Region = child_region g written in
       let w : Bool = is_monitor r || rest x in
       let t = left_ok (behind_fork x w n) m (in_turn (map part (stmts_of ts)) ports r (inside_fork n)) j.1 in
-      let a = (turns_bound ts r (inside_fork n) t.0 t.1 (record { vars = f.vars; handles = few_none })).1 in
-      (subst Few t.2 (record { vars = f.vars; handles = few_fork x w n.handles j.0.names f.handles }),
-       λ k c.
-         let b : Enough (behind_fork x w n) k = subst (λ z. Enough z k) (sym t.2) c in
-         let hs : most_handles k (with_name (names_of n.handles) x) ≤ suc handles_known = subst (λ hs. most_handles k hs ≤ suc handles_known) (names_with x w n.handles) b.handles in
-         record { vars = (let y = a.vars in let z = b.vars in omega arith); handles = (let y = a.handles in omega arith) })
+      let a = (turns_bound ts r (inside_fork n) t.0 t.1 (record { vars = f.vars; handles = few_none })).1 in (
+        subst Few t.2 (record { vars = f.vars; handles = few_fork x w n.handles j.0.names f.handles }),
+        λ k c.
+            let b : Enough (behind_fork x w n) k = subst (λ z. Enough z k) (sym t.2) c in
+            let hs : most_handles k (with_name (names_of n.handles) x) ≤ suc handles_known = subst (λ hs. most_handles k hs ≤ suc handles_known) (names_with x w n.handles) b.handles in
+            record { vars = (let y = a.vars in let z = b.vars in omega arith); handles = (let y = a.handles in omega arith) },
+      )
 
   stmt_bounds : (s : TestStmt) → StmtBounds s
   unfolding Bounds

@@ -2,15 +2,18 @@
 use Rattle.std.proofs.Common.{◌≡◌, ℕ, ◌≤◌, List, [], length, Option, Some, None, sym, subst, arith}
 use Rattle.tb_base.specs.declared.path.Region.{Region}
 use Rattle.tb_base.specs.declared.path.Region.TheVariants.{Main}
+use Rattle.tl_ast.specs.declared.tree.TestText.{TestText}
 use Rattle.tl_check.specs.Scopes.{Known as KnownNames, nothing_known, inside_fork, with_variable, with_handle}
-use Rattle.tl_check.specs.Walk.{behind_let, behind_fork}
+use Rattle.tl_check.specs.Walk.{Ports, behind_let, behind_fork, test_rule}
 use Rattle.tl_threads.specs.Values.{Name}
-use Rattle.tl_threads.specs.Bodies.{Body}
+use Rattle.tl_threads.specs.Bodies.{Body, test_body}
 use Rattle.tl_threads.specs.Bodies.Body.{nil, poke_port, peek_port, expect_port, step_by, let_var, if_true, while_true, repeat_by, fork_as, join_of, joinstep_of}
-use Rattle.tl_threads.specs.Code.{slot, with_name}
-use Rattle.tl_threads.specs.Stands.{Settable, Checked}
+use Rattle.tl_threads.specs.Code.{slot, with_name, test_code}
+use Rattle.tl_threads.specs.Stands.{Places, HasAt, Settable, Checked}
+use Rattle.tl_threads.specs.Fits.{CodeOf}
 use Rattle.tl_threads.specs.Allowed.{names_of, KnownInto, Allowed, most_vars, most_handles}
 use Rattle.tl_threads.proofs.NameFacts.{find_below, known_slot, with_length}
+use Rattle.tl_threads.proofs.Ruling.{rules_allow}
 use Rattle.tl_threads.proofs.Allowing.{with_same, names_with, handle_known}
 
 -- ---- no fewer slots than names
@@ -73,3 +76,7 @@ checked_of v h (joinstep_of l x k) g n t m j = (handle_known x n.handles t.0.0 t
 
 pub allowed_is_checked : (v h : ℕ) (b : Body) → Allowed Main nothing_known b → most_vars b [] ≤ v → most_handles b [] ≤ h → Checked v h b [] []
 allowed_is_checked v h b a m j = checked_of v h b Main nothing_known a m j
+
+-- THE CODE OF A TEST that keeps the rules
+pub rules_stand : (ports : Ports) (test : TestText) → test_rule test ports ≡ None → (v h : ℕ) (f : Places) → most_vars (test_body ports test) [] ≤ v → most_handles (test_body ports test) [] ≤ h → HasAt f 0 (test_code (test_body ports test)) → CodeOf v h f (test_body ports test)
+rules_stand ports test e v h f m j c = record { checked = allowed_is_checked v h (test_body ports test) (rules_allow ports test e) m j; code = c }

@@ -1,5 +1,5 @@
 -- Each move of a thread respects regions.
-use Rattle.std.proofs.Common.{◌≡◌, ℕ, zero, suc, ◌<◌, ◌≤◌, List, [], ◌∷◌, ◌++◌, length, length-append, Bool, true, false, cond, Some, None, is_some, refl, sym, ap, subst, ◌∙◌, ⊎_elim, arith, slice_index, unwrap_or}
+use Rattle.std.proofs.Common.{◌≡◌, ℕ, zero, suc, ◌<◌, ◌≤◌, List, [], ◌∷◌, ◌++◌, length, length-append, Bool, true, false, cond, Some, None, is_some, refl, sym, ap, subst, ◌∙◌, ⊎_elim, arith, slice_index, unwrap_or, slice_set}
 use Rattle.std.specs.FinMap as map
 use Rattle.std.specs.Str.{bytes_eq}
 use Rattle.tb_base.specs.declared.path.Region.{Region}
@@ -7,7 +7,7 @@ use Rattle.tb_base.specs.declared.path.Region.TheVariants.{Main, Monitor}
 use Rattle.tl_ast.specs.declared.tree.TestText.{TestText}
 use Rattle.tl_check.specs.Scopes.{Known as KnownNames, nothing_known, inside_fork, handle_named, with_handle, is_monitor}
 use Rattle.tl_check.specs.Walk.{Ports, behind_let, behind_fork, test_rule}
-use Rattle.bench_model.specs.World.{Move, FitsMove}
+use Rattle.bench_model.specs.World.{Move, FitsMove, ModelLaws}
 use Rattle.bench_model.specs.World.Move.{spend}
 use Rattle.tl_threads.specs.Values.{Name, Numbers, Expr, number_of, value}
 use Rattle.tl_threads.specs.Bodies.{Body, test_body}
@@ -180,6 +180,12 @@ moves_fit limit fitted reads cone r forked i t =
     subst (λ q. FitsMove (threads_over limit fitted reads cone) q forked (next limit i)) t.number
     (within_fits limit fitted reads cone t.region forked i.handles i.forks t.forks limit i.vars i.rest t.known t.rest t.handles)
 
+-- THREADS OVER A CIRCUIT meet the laws of orders where the circuit does
+pub threads_meet_laws : (limit : ℕ) (fitted : (port raw : ℕ) → ℕ) (reads : (inputs registers : List ℕ) (signal : ℕ) → ℕ) (cone : (signal port : ℕ) → Bool)
+    → ((ins regs : List ℕ) (s p n : ℕ) → cone s p ≡ false → reads (slice_set ins p n) regs s ≡ reads ins regs s) → ModelLaws (threads_over limit fitted reads cone)
+threads_meet_laws limit fitted reads cone apart = record { value_apart = apart; fits_next = moves_fit limit fitted reads cone }
+
+-- THE ROOT THREAD respects regions
 pub root_fits : (ports : Ports) (test : TestText) → test_rule test ports ≡ None → RespectsRegions 0 [] (root_of (test_body ports test))
 root_fits ports test e = record {
   region = Main;

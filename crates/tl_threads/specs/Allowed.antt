@@ -10,8 +10,9 @@ use Rattle.tl_threads.specs.Values.{Name}
 use Rattle.tl_threads.specs.Bodies.{Body, test_body}
 use Rattle.tl_threads.specs.Bodies.Body.{nil, poke_port, peek_port, expect_port, step_by, let_var, if_true, while_true, repeat_by, fork_as, join_of, joinstep_of}
 use Rattle.tl_threads.specs.Threads.{region_number}
-use Rattle.tl_threads.specs.Code.{with_name}
-use Rattle.tl_threads.specs.Stands.{Known, KnownIn, Checked}
+use Rattle.tl_threads.specs.Code.{with_name, test_code}
+use Rattle.tl_threads.specs.Stands.{Places, HasAt, Known, KnownIn, Checked}
+use Rattle.tl_threads.specs.Fits.{CodeOf}
 
 -- handles with whether some fork in their scope gives them to a Monitor thread
 abbrev pub Handles : Type 0
@@ -44,7 +45,8 @@ Allowed g n (if_true l e a b k) = KnownIn n.variables e × Allowed g n a × Allo
 Allowed g n (while_true l e a k) = KnownIn n.variables e × Allowed g n a × Allowed g n k
 Allowed g n (repeat_by l e a k) = KnownIn n.variables e × Allowed g n a × Allowed g n k
 Allowed g n (fork_as l r h a k) =
-    (watches : Bool) × (region_number g ≤ region_number r) × Allowed r (inside_fork n) a × Takes (with_handle h watches n.handles) h r × Allowed g (behind_fork h watches n) k
+    (watches : Bool) × (region_number g ≤ region_number r) × Allowed r (inside_fork n) a
+    × Takes (with_handle h watches n.handles) h r × Allowed g (behind_fork h watches n) k
 Allowed g n (join_of l h k) = MayJoin n.handles h g × Allowed g n k
 Allowed g n (joinstep_of l h k) = ((watches : Bool) × (handle_named h n.handles ≡ Some watches)) × Allowed g n k
 
@@ -86,7 +88,8 @@ most_handles (joinstep_of l h k) hs = most_handles k hs
 
 -- an allowed body is checked, with so many slots and with more
 abbrev pub AllowedIsChecked : Type 0
-AllowedIsChecked = (v h : ℕ) (body : Body) → Allowed Main nothing_known body → most_vars body [] ≤ v → most_handles body [] ≤ h → Checked v h body [] []
+AllowedIsChecked = (v h : ℕ) (body : Body) → Allowed Main nothing_known body
+    → most_vars body [] ≤ v → most_handles body [] ≤ h → Checked v h body [] []
 
 -- A TEST THAT KEEPS THE RULES takes few slots: as many as names may be known at one place, and one for a driver's own name
 pub record FewSlots (body : Body) : Type 0 where
@@ -95,3 +98,9 @@ pub record FewSlots (body : Body) : Type 0 where
 
 abbrev pub RulesBound : Type 0
 RulesBound = (ports : Ports) (test : TestText) → test_rule test ports ≡ None → FewSlots (test_body ports test)
+
+-- the code of a test that keeps the rules, with slots enough, is one whose places stand for threads
+abbrev pub RulesStand : Type 0
+RulesStand = (ports : Ports) (test : TestText) → test_rule test ports ≡ None → (v h : ℕ) (f : Places)
+    → most_vars (test_body ports test) [] ≤ v → most_handles (test_body ports test) [] ≤ h → HasAt f 0 (test_code (test_body ports test))
+    → CodeOf v h f (test_body ports test)

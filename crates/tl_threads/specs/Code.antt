@@ -101,12 +101,14 @@ block_code (let_var l x e k) c pc = at c (Store l (slot x (with_name c.vars x)) 
 block_code (if_true l e a b k) c pc =
     choice c (λ to. at c (Unless l (operand c.vars e) to)) (λ p. block_code a c p) (λ p. block_code b c p) (λ p. block_code k c p) pc
 block_code (while_true l e a k) c pc =
-    framed (λ to. at c (Enter l (operand c.vars e) to)) (λ p. block_code a c p) (λ back. at c (Turn l (operand c.vars e) back)) (λ p. block_code k c p) pc
+    framed (λ to. at c (Enter l (operand c.vars e) to)) (λ p. block_code a c p)
+    (λ back. at c (Turn l (operand c.vars e) back)) (λ p. block_code k c p) pc
 block_code (repeat_by l e a k) c pc =
-    framed (λ to. at c (Count l (operand c.vars e) to)) (λ p. block_code a (deeper c) p) (λ back. at (deeper c) (Again l back)) (λ p. block_code k c p) pc
+    framed (λ to. at c (Count l (operand c.vars e) to)) (λ p. block_code a (deeper c) p)
+    (λ back. at (deeper c) (Again l back)) (λ p. block_code k c p) pc
 block_code (fork_as l r h a k) c pc =
-    framed (λ to. at c (Fork l r (slot h (with_name c.handles h)) to)) (λ p. block_code a (child_scope r c) p) (λ back. at (child_scope r c) End)
-    (λ p. block_code k (with_handle h c) p) pc
+    framed (λ to. at c (Fork l r (slot h (with_name c.handles h)) to)) (λ p. block_code a (child_scope r c) p)
+    (λ back. at (child_scope r c) End) (λ p. block_code k (with_handle h c) p) pc
 block_code (join_of l h k) c pc = at c (Join l (slot h c.handles)) ∷ block_code k c (suc pc)
 block_code (joinstep_of l h k) c pc = at c (JoinStep l (slot h c.handles)) ∷ block_code k c (suc pc)
 

@@ -99,7 +99,9 @@ three_turns = repeat_by 1 (number 3) nil (step_by 2 1 nil)
 
 -- `let v = 0; while v < 2 { set v = v + 1; } poke a = v;`
 abbrev two_rounds : Body
-two_rounds = let_var 1 v (number 0) (while_true 2 (two Lt (variable v) (number 2)) (let_var 3 v (two Add (variable v) (number 1)) nil) (poke_port 4 a (variable v) nil))
+two_rounds = let_var 1 v (number 0)
+    (while_true 2 (two Lt (variable v) (number 2)) (let_var 3 v (two Add (variable v) (number 1)) nil)
+    (poke_port 4 a (variable v) nil))
 
 -- `let v = 2; repeat v { set v = 0; } poke a = v;`
 abbrev count_is_kept : Body
@@ -118,12 +120,14 @@ pub record MoveExamples : Type 0 where
   pub empty : next 0 (root_of nil) ≡ end
   -- blocks are left uncounted
   pub leaving : next 1 (root_of (if_true 1 (number 1) (if_true 2 (number 1) nil nil nil) nil (step_by 3 1 nil))) ≡ spend 2
-  pub left : next 2 (root_of (if_true 1 (number 1) (if_true 2 (number 1) nil nil nil) nil (step_by 3 1 nil))) ≡ arrive 3 1 (keeps none none 0 (block nil ∷ []))
+  pub left : next 2 (root_of (if_true 1 (number 1) (if_true 2 (number 1) nil nil nil) nil (step_by 3 1 nil)))
+      ≡ arrive 3 1 (keeps none none 0 (block nil ∷ []))
   -- a `repeat` with 3 counts 4 local statements, and one with 0 counts one
   pub repeat_spends : next 3 (root_of three_turns) ≡ spend 1
   pub repeat_ends : next 4 (root_of three_turns) ≡ arrive 2 1 (keeps none none 0 (block nil ∷ []))
   pub no_turn_spends : next 0 (root_of (repeat_by 1 (number 0) (step_by 2 7 nil) (step_by 3 1 nil))) ≡ spend 1
-  pub no_turn : next 1 (root_of (repeat_by 1 (number 0) (step_by 2 7 nil) (step_by 3 1 nil))) ≡ arrive 3 1 (keeps none none 0 (block nil ∷ []))
+  pub no_turn : next 1 (root_of (repeat_by 1 (number 0) (step_by 2 7 nil) (step_by 3 1 nil)))
+      ≡ arrive 3 1 (keeps none none 0 (block nil ∷ []))
   -- its count is computed once: a `let`, three tests and two `set`s
   pub count_spends : next 5 (root_of count_is_kept) ≡ spend 2
   pub count_ends : next 6 (root_of count_is_kept) ≡ poke 4 3 0 (λ old. keeps (got v (2 ∷ 0 ∷ 0 ∷ []) none) none 0 (block nil ∷ []))
@@ -131,7 +135,8 @@ pub record MoveExamples : Type 0 where
   pub while_spends : next 5 (root_of two_rounds) ≡ spend 2
   pub while_ends : next 6 (root_of two_rounds) ≡ poke 4 3 2 (λ old. keeps (got v (0 ∷ 1 ∷ 2 ∷ []) none) none 0 (block nil ∷ []))
   -- an act in a loop: what remains is the rest of its body and the loop
-  pub in_a_loop : next 1 (root_of (repeat_by 1 (number 2) (step_by 2 1 nil) nil)) ≡ arrive 2 1 (keeps none none 0 (block nil ∷ again 1 1 (step_by 2 1 nil) ∷ block nil ∷ []))
+  pub in_a_loop : next 1 (root_of (repeat_by 1 (number 2) (step_by 2 1 nil) nil))
+      ≡ arrive 2 1 (keeps none none 0 (block nil ∷ again 1 1 (step_by 2 1 nil) ∷ block nil ∷ []))
   -- the line of the local statement past the limit
   pub past_limit : next 2 (root_of (let_var 1 v (number 1) (let_var 2 v (number 2) (let_var 3 v (number 3) nil)))) ≡ spend 3
   pub at_limit : next 2 (root_of (let_var 1 v (number 1) (let_var 2 v (number 2) nil))) ≡ end
@@ -141,27 +146,35 @@ pub record MoveExamples : Type 0 where
   pub shown : next 0 (root_of (peek_port 1 y None nil)) ≡ peek 1 5 true (λ x. keeps none none 0 (block nil ∷ []))
   pub set : next 0 (root_of (peek_port 1 y (Some v) nil)) ≡ peek 1 5 false (λ x. keeps (only v x) none 0 (block nil ∷ []))
   -- a child has the variables of its parent and no handles; the handle names it by its number
-  pub forks : next 0 (record { rest = block (fork_as 2 Monitor h child_body (join_of 4 h nil)) ∷ []; vars = only v 7; handles = only g 0; forks = 1 })
+  pub forks : next 0 (keeps (only v 7) (only g 0) 1 (block (fork_as 2 Monitor h child_body (join_of 4 h nil)) ∷ []))
       ≡ fork 2 1 (begins child_body (only v 7)) (keeps (only v 7) (map.insert (only g 0) h 1) 2 (block (join_of 4 h nil) ∷ []))
-  pub joins : next 0 (keeps none (map.insert (only g 0) h 1) 2 (block (join_of 4 h nil) ∷ [])) ≡ join 4 1 (keeps none (map.insert (only g 0) h 1) 2 (block nil ∷ []))
-  pub joins_at_a_step : next 0 (keeps none (map.insert (only g 0) h 1) 2 (block (joinstep_of 4 g nil) ∷ [])) ≡ joinstep 4 0 (keeps none (map.insert (only g 0) h 1) 2 (block nil ∷ []))
+  pub joins : next 0 (keeps none (map.insert (only g 0) h 1) 2 (block (join_of 4 h nil) ∷ []))
+      ≡ join 4 1 (keeps none (map.insert (only g 0) h 1) 2 (block nil ∷ []))
+  pub joins_at_a_step : next 0 (keeps none (map.insert (only g 0) h 1) 2 (block (joinstep_of 4 g nil) ∷ []))
+      ≡ joinstep 4 0 (keeps none (map.insert (only g 0) h 1) 2 (block nil ∷ []))
 
 -- ---- the body of a test
 
 abbrev ports : Ports
-ports = (codes "a", record { signal = a; input = true; signed = false; width = 4 }) ∷ (codes "y", record { signal = y; input = false; signed = false; width = 4 }) ∷ []
+ports =
+    (codes "a", record { signal = a; input = true; signed = false; width = 4 })
+    ∷ (codes "y", record { signal = y; input = false; signed = false; width = 4 }) ∷ []
 
 abbrev body : List TestStmt → Body
 body stmts = test_body ports (record { body = stmts })
 
 pub record BodyExamples : Type 0 where
   pub empty : body [] ≡ nil
-  pub ports_are_signals : body (s.Poke 1 (codes "a") (e.Num 1) ∷ s.Peek 2 (codes "y") None ∷ s.Expect 3 (codes "y") (e.Num 1) ∷ []) ≡ poke_port 1 a (number 1) (peek_port 2 y None (expect_port 3 y (number 1) nil))
+  pub ports_are_signals : body (s.Poke 1 (codes "a") (e.Num 1) ∷ s.Peek 2 (codes "y") None ∷ s.Expect 3 (codes "y") (e.Num 1) ∷ [])
+      ≡ poke_port 1 a (number 1) (peek_port 2 y None (expect_port 3 y (number 1) nil))
   pub missing_port : body (s.Poke 1 (codes "b") (e.Num 1) ∷ []) ≡ poke_port 1 (record { 0 = 0 }) (number 1) nil
-  pub set_is_let : body (s.Let 1 v (e.Num 1) ∷ s.Set 2 v (e.Neg (e.Var v)) ∷ []) ≡ let_var 1 v (number 1) (let_var 2 v (minus (variable v)) nil)
-  pub nested : body (s.Repeat 1 (e.Num 2) (s.If 2 (e.Num 1) (s.Step 3 1 ∷ []) [] ∷ []) ∷ s.Step 4 2 ∷ []) ≡ repeat_by 1 (number 2) (if_true 2 (number 1) (step_by 3 1 nil) nil nil) (step_by 4 2 nil)
+  pub set_is_let : body (s.Let 1 v (e.Num 1) ∷ s.Set 2 v (e.Neg (e.Var v)) ∷ [])
+      ≡ let_var 1 v (number 1) (let_var 2 v (minus (variable v)) nil)
+  pub nested : body (s.Repeat 1 (e.Num 2) (s.If 2 (e.Num 1) (s.Step 3 1 ∷ []) [] ∷ []) ∷ s.Step 4 2 ∷ [])
+      ≡ repeat_by 1 (number 2) (if_true 2 (number 1) (step_by 3 1 nil) nil nil) (step_by 4 2 nil)
   -- the region that is written, else that of the thread
-  pub regions : body (s.Fork 1 (Some Monitor) h (s.Fork 2 None g [] ∷ s.Fork 3 (Some Main) g [] ∷ []) ∷ s.Fork 4 None g [] ∷ []) ≡ fork_as 1 Monitor h (fork_as 2 Monitor g nil (fork_as 3 Main g nil nil)) (fork_as 4 Main g nil nil)
+  pub regions : body (s.Fork 1 (Some Monitor) h (s.Fork 2 None g [] ∷ s.Fork 3 (Some Main) g [] ∷ []) ∷ s.Fork 4 None g [] ∷ [])
+      ≡ fork_as 1 Monitor h (fork_as 2 Monitor g nil (fork_as 3 Main g nil nil)) (fork_as 4 Main g nil nil)
 
 -- ---- the code of a test
 
@@ -173,13 +186,17 @@ pub record CodeExamples : Type 0 where
   -- a `while` is tested at its head and at its foot
   pub while_code : test_code two_rounds
       ≡ root_at [] [] (i.Store 1 0 (Number 0 ∷ [])) ∷ root_at (v ∷ []) [] (i.Enter 2 (Slot 0 ∷ Number 2 ∷ Apply Lt ∷ []) 4)
-      ∷ root_at (v ∷ []) [] (i.Store 3 0 (Slot 0 ∷ Number 1 ∷ Apply Add ∷ [])) ∷ root_at (v ∷ []) [] (i.Turn 2 (Slot 0 ∷ Number 2 ∷ Apply Lt ∷ []) 2)
+      ∷ root_at (v ∷ []) [] (i.Store 3 0 (Slot 0 ∷ Number 1 ∷ Apply Add ∷ []))
+      ∷ root_at (v ∷ []) [] (i.Turn 2 (Slot 0 ∷ Number 2 ∷ Apply Lt ∷ []) 2)
       ∷ root_at (v ∷ []) [] (i.Poke 4 a (Slot 0 ∷ [])) ∷ at first_scope i.End ∷ []
   -- an `if` jumps past its second side; names of a block have slots there alone
   pub if_code : test_code other_side
-      ≡ at first_scope (i.Unless 1 (Number 0 ∷ []) 3) ∷ at first_scope (i.Step 2 7) ∷ at first_scope (i.Goto 4) ∷ at first_scope (i.Store 3 0 (Number 1 ∷ []))
+      ≡ at first_scope (i.Unless 1 (Number 0 ∷ []) 3) ∷ at first_scope (i.Step 2 7) ∷ at first_scope (i.Goto 4)
+      ∷ at first_scope (i.Store 3 0 (Number 1 ∷ []))
       ∷ at first_scope (i.Expect 4 y (Number 2 ∷ [])) ∷ at first_scope i.End ∷ []
   -- a `repeat` keeps a count within; a child has a slot of its parent's handles, and none of its own
   pub fork_code : test_code (repeat_by 1 (number 2) (fork_as 2 Monitor h nil (join_of 3 h nil)) nil)
-      ≡ at first_scope (i.Count 1 (Number 2 ∷ []) 5) ∷ at (deeper first_scope) (i.Fork 2 Monitor 0 3) ∷ at (child_scope Monitor first_scope) i.End
-      ∷ at (record (deeper first_scope) { handles = h ∷ [] }) (i.Join 3 0) ∷ at (deeper first_scope) (i.Again 1 1) ∷ at first_scope i.End ∷ []
+      ≡ at first_scope (i.Count 1 (Number 2 ∷ []) 5) ∷ at (deeper first_scope) (i.Fork 2 Monitor 0 3)
+      ∷ at (child_scope Monitor first_scope) i.End
+      ∷ at (record (deeper first_scope) { handles = h ∷ [] }) (i.Join 3 0)
+      ∷ at (deeper first_scope) (i.Again 1 1) ∷ at first_scope i.End ∷ []

@@ -25,7 +25,8 @@ FitsCode v h f depth region s = (x : Placed) × (f s.pc ≡ Some x) × FitsPlace
 
 -- what stands for a thread fits
 abbrev pub StandsFits : Type 0
-StandsFits = (v h : ℕ) (f : Places) (depth : ℕ) (region : Region) (s : Core) (i : Inner) → Stands v h f depth region s i → FitsCode v h f depth region s
+StandsFits = (v h : ℕ) (f : Places) (depth : ℕ) (region : Region) (s : Core) (i : Inner)
+    → Stands v h f depth region s i → FitsCode v h f depth region s
 
 -- the places of a test's code
 pub record CodeOf (v h : ℕ) (f : Places) (body : Body) : Type 0 where
@@ -35,7 +36,8 @@ pub record CodeOf (v h : ℕ) (f : Places) (body : Body) : Type 0 where
 
 -- what fits a place of a test's code stands for a thread
 abbrev pub FitsStands : Type 0
-FitsStands = (v h : ℕ) (f : Places) (body : Body) → CodeOf v h f body → (depth : ℕ) (region : Region) (s : Core) → s.pc < length (test_code body)
+FitsStands = (v h : ℕ) (f : Places) (body : Body) → CodeOf v h f body → (depth : ℕ) (region : Region) (s : Core)
+    → s.pc < length (test_code body)
     → FitsCode v h f depth region s → (i : Inner) × Stands v h f depth region s i
 
 -- where the root thread begins

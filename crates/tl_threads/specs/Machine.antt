@@ -116,11 +116,13 @@ step is_full jump go s (Some (Poke l p o)) = did (pokes l p.0 (taken s.locals o)
 step is_full jump go s (Some (Peek l p into)) = did (peeks l p.0 into) (record s { pc = suc s.pc })
 step is_full jump go s (Some (Expect l p o)) = did (expects l p.0 (taken s.locals o)) (record s { pc = suc s.pc })
 step is_full jump go s (Some (Step l n)) = did (arrives l n) (record s { pc = suc s.pc })
-step is_full jump go s (Some (Store l k o)) = locally is_full l s (go (record s { pc = suc s.pc; locals = slice_set s.locals k (taken s.locals o) }))
+step is_full jump go s (Some (Store l k o)) =
+    locally is_full l s (go (record s { pc = suc s.pc; locals = slice_set s.locals k (taken s.locals o) }))
 step is_full jump go s (Some (Unless l o to)) = locally is_full l s (go (record s { pc = cond (is_zero (taken s.locals o)) to (suc s.pc) }))
 step is_full jump go s (Some (Goto to)) = cond (nat_lt s.pc to) (jump (record s { pc = to })) None
 step is_full jump go s (Some (Enter l o to)) = locally is_full l s (go (record s { pc = cond (is_zero (taken s.locals o)) to (suc s.pc) }))
-step is_full jump go s (Some (Turn l o back)) = locally is_full l s (go (record s { pc = cond (is_zero (taken s.locals o)) (suc s.pc) back }))
+step is_full jump go s (Some (Turn l o back)) =
+    locally is_full l s (go (record s { pc = cond (is_zero (taken s.locals o)) (suc s.pc) back }))
 step is_full jump go s (Some (Count l o to)) = locally is_full l s (go (counted (taken s.locals o) s.pc to s))
 step is_full jump go s (Some (Again l back)) = locally is_full l s (go_if go (counted_on s.pc back s s.loops))
 step is_full jump go s (Some (Fork l r k after)) = Some (forked l r k after s)

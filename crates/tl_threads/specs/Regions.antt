@@ -1,11 +1,11 @@
 -- Threads respect regions: from the rules of tests to each move.
-use Rattle.std.specs.Prelude.{◌≡◌, ℕ, ◌<◌, ◌≤◌, Bool, true, false, List, [], ◌∷◌, length, Some, None, slice_index}
+use Rattle.std.specs.Prelude.{◌≡◌, ℕ, ◌<◌, ◌≤◌, Bool, true, false, List, [], ◌∷◌, length, Some, None, slice_index, slice_set}
 use Rattle.std.specs.FinMap as map
 use Rattle.tb_base.specs.declared.path.Region.{Region}
 use Rattle.tl_ast.specs.declared.tree.TestText.{TestText}
 use Rattle.tl_check.specs.Scopes.{Known as KnownNames, handle_named}
 use Rattle.tl_check.specs.Walk.{Ports, test_rule}
-use Rattle.bench_model.specs.World.{Model, FitsMove}
+use Rattle.bench_model.specs.World.{Model, FitsMove, ModelLaws}
 use Rattle.tl_threads.specs.Values.{Name, Numbers}
 use Rattle.tl_threads.specs.Bodies.{test_body}
 use Rattle.tl_threads.specs.Threads.{Frame, Inner, next, root_of, region_number}
@@ -44,14 +44,25 @@ pub record RespectsRegions (r : ℕ) (forked : List ℕ) (i : Inner) : Type 0 wh
   pub forks : i.forks ≡ length forked
 
 -- the threads of tests over a circuit: what its inputs take, the values of its signals, and their cones
-abbrev pub threads_over : (limit : ℕ) → (fitted : (port raw : ℕ) → ℕ) → (value : (inputs registers : List ℕ) (signal : ℕ) → ℕ) → (cone : (signal port : ℕ) → Bool) → Model
-threads_over limit fitted value cone = record { Inner = Inner; next = next limit; fitted = fitted; value = value; cone = cone; Fits = RespectsRegions }
+abbrev pub threads_over : (limit : ℕ) → (fitted : (port raw : ℕ) → ℕ) → (value : (inputs registers : List ℕ) (signal : ℕ) → ℕ)
+    → (cone : (signal port : ℕ) → Bool) → Model
+threads_over limit fitted value cone =
+    record { Inner = Inner; next = next limit; fitted = fitted; value = value; cone = cone; Fits = RespectsRegions }
 
 -- EACH MOVE RESPECTS REGIONS, over any circuit, and so does what comes behind it
 abbrev pub MovesFit : Type 0
-MovesFit = (limit : ℕ) (fitted : (port raw : ℕ) → ℕ) (value : (inputs registers : List ℕ) (signal : ℕ) → ℕ) (cone : (signal port : ℕ) → Bool)
-    (r : ℕ) (forked : List ℕ) (i : Inner) → RespectsRegions r forked i → FitsMove (threads_over limit fitted value cone) r forked (next limit i)
+MovesFit = (limit : ℕ) (fitted : (port raw : ℕ) → ℕ) (value : (inputs registers : List ℕ) (signal : ℕ) → ℕ)
+    (cone : (signal port : ℕ) → Bool) (r : ℕ) (forked : List ℕ) (i : Inner) → RespectsRegions r forked i
+    → FitsMove (threads_over limit fitted value cone) r forked (next limit i)
 
 -- the root thread of a test that keeps the rules respects regions
 abbrev pub RootFits : Type 0
 RootFits = (ports : Ports) (test : TestText) → test_rule test ports ≡ None → RespectsRegions 0 [] (root_of (test_body ports test))
+
+-- WHAT THE LAWS OF ORDERS ASK of threads over a circuit comes down to what they ask of the circuit: a poke of an input outside the cone
+-- leaves the value of a signal
+abbrev pub ThreadsMeetLaws : Type 0
+ThreadsMeetLaws = (limit : ℕ) (fitted : (port raw : ℕ) → ℕ) (value : (inputs registers : List ℕ) (signal : ℕ) → ℕ)
+    (cone : (signal port : ℕ) → Bool)
+    → ((ins regs : List ℕ) (s p n : ℕ) → cone s p ≡ false → value (slice_set ins p n) regs s ≡ value ins regs s)
+    → ModelLaws (threads_over limit fitted value cone)

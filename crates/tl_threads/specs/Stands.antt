@@ -139,7 +139,8 @@ Agrees names vars locals = (x : Name) (k : ℕ) → slot_found x names ≡ Some 
 
 -- each known handle names the child in its slot
 abbrev pub Names : List Name → (handles : Numbers) → (slots : List (Option ℕ)) → Type 0
-Names names handles slots = (x : Name) (k : ℕ) → slot_found x names ≡ Some k → (j : ℕ) × (map.get handles x ≡ Some j) × (slice_get slots k ≡ Some (Some j))
+Names names handles slots = (x : Name) (k : ℕ) → slot_found x names ≡ Some k
+    → (j : ℕ) × (map.get handles x ≡ Some j) × (slice_get slots k ≡ Some (Some j))
 
 -- the slots are those of a thread of this depth and region
 pub record Slots (v h depth : ℕ) (region : Region) (c : Scope) (s : Core) (numbers children : Numbers) (forked : ℕ) : Type 0 where
@@ -172,7 +173,8 @@ put (Some k) x s = record s { locals = slice_set s.locals k x }
 abbrev pub Only : Did → Doing → Type 0
 Only d doing = (d.doing ≡ doing) × (d.child ≡ None)
 
-pub record Peeks (v h : ℕ) (f : Places) (depth : ℕ) (region : Region) (d : Did) (line port : ℕ) (shown : Bool) (i : ℕ → Inner) : Type 0 where
+pub record Peeks (v h : ℕ) (f : Places) (depth : ℕ) (region : Region) (d : Did) (line port : ℕ) (shown : Bool)
+    (i : ℕ → Inner) : Type 0 where
   pub into : Option ℕ
   pub only : Only d (peeks line port into)
   pub shows : shown ≡ is_none into

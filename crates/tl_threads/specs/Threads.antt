@@ -74,7 +74,8 @@ move_of go vs hs n (let_var l x e k) fs done = go l (block k ∷ fs) (map.insert
 move_of go vs hs n (if_true l e a b k) fs done = go l (block (cond (is_zero (value vs e)) b a) ∷ block k ∷ fs) vs
 move_of go vs hs n (while_true l e a k) fs done = go l (turns l e (value vs e) a (block k ∷ fs)) vs
 move_of go vs hs n (repeat_by l e a k) fs done = go l (repeats l (value vs e) a (block k ∷ fs)) vs
-move_of go vs hs n (fork_as l r h a k) fs done = fork l (region_number r) (begins a vs) (keeps vs (map.insert hs h n) (suc n) (block k ∷ fs))
+move_of go vs hs n (fork_as l r h a k) fs done =
+    fork l (region_number r) (begins a vs) (keeps vs (map.insert hs h n) (suc n) (block k ∷ fs))
 move_of go vs hs n (join_of l h k) fs done = join l (number_of hs h) (keeps vs hs n (block k ∷ fs))
 move_of go vs hs n (joinstep_of l h k) fs done = joinstep l (number_of hs h) (keeps vs hs n (block k ∷ fs))
 

@@ -1,8 +1,8 @@
 //! Laws of threads and of code. Each function has no body: its contract is the law.
 ghost use Rattle.tl_threads.specs.Laws.{OperandsAreValues, OneAction, CodeRefines};
 ghost use Rattle.tl_threads.specs.Fits.{StandsFits, FitsStands, RootStands};
-ghost use Rattle.tl_threads.specs.Allowed.{RulesAllow, AllowedIsChecked, RulesBound};
-ghost use Rattle.tl_threads.specs.Regions.{MovesFit, RootFits};
+ghost use Rattle.tl_threads.specs.Allowed.{RulesAllow, AllowedIsChecked, RulesBound, RulesStand};
+ghost use Rattle.tl_threads.specs.Regions.{MovesFit, RootFits, ThreadsMeetLaws};
 
 use crate::code::Placed;
 
@@ -62,6 +62,12 @@ pub fn what_is_allowed_is_checked()
     ensures { AllowedIsChecked }
 {}
 
+/// The places of a test's code stand for threads, where the test keeps the rules for its ports and there are no fewer slots than names that
+/// are known at one place.
+pub fn rules_make_the_code_stand()
+    ensures { RulesStand }
+{}
+
 /// Each move of a thread that respects regions respects them, whatever the circuit: children are forked into no lesser region, and a child
 /// that is joined was forked and is of no greater region. So it goes on.
 pub fn moves_respect_regions()
@@ -71,4 +77,10 @@ pub fn moves_respect_regions()
 /// The root thread of a test that keeps the rules respects regions.
 pub fn the_root_respects_regions()
     ensures { RootFits }
+{}
+
+/// What the laws of orders ask of the threads of tests over a circuit comes down to this: a poke of an input outside the cone of a signal
+/// leaves the value of the signal.
+pub fn threads_meet_the_laws_of_orders()
+    ensures { ThreadsMeetLaws }
 {}

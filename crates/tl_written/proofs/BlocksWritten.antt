@@ -17,7 +17,7 @@ use Rattle.tl_ast.specs.declared.tree.TestStmt.TheOpen as S
 use Rattle.tl_ast.specs.declared.tree.TestText.{TestText}
 use Rattle.tl_ast.specs.ExprGrammar.{expr_limits}
 use Rattle.tl_ast.specs.TestGrammar.{Body, token_stmt_word, begins_stmt, is_forking, some_forking, too_many_forks, with_line, first_word, else_block, pair, if_row, while_row, repeat_row, region_named, forked, fork_in, fork_row, row, fork_block, stmt_in, stmts_in, no_brace, block_within, test_within, test}
-use Rattle.tl_check.specs.Bounds.{greatest, statements_level, statements, values_level, driver_values, blocks_level, nested_blocks, forks_level, nested_forks, longest_level, longest_expr}
+use Rattle.tl_check.specs.Bounds.{greatest, statements, driver_values, nested_blocks, nested_forks, longest_expr}
 use Rattle.tl_check.proofs.Unrolled.{fold-If, fold-While, fold-Repeat, fold-Fork}
 use Rattle.tl_written.proofs.Gives.{Gives, Always, Any, any, gives_to, gives_both, gives_after, gives_either, gives_nothing, gives_stop, gives_one, gives_many, gives_second, gives_first}
 use Rattle.tl_written.proofs.ExprsWritten.{Short, gives_expr}

@@ -15,7 +15,7 @@ use Rattle.tl_ast.specs.declared.tree.DriverKind.TheVariants as kind
 use Rattle.tl_ast.specs.declared.listed.Listed.{Listed}
 use Rattle.tl_ast.specs.ExprGrammar.{expr_limits, Counted, expr}
 use Rattle.tl_ast.specs.TestGrammar.{port, further, furthers, from_number, from_other, no_values, numbered_values, other_values, values, bracket, fields, listed_from, is_suffix, may_be_index, listed_further, listed_behind, listed, ended, poke, expect, assigned, let_row, set_row, into, peek, step, reset, join, join_step, list_driver, bare_driver, value_driver, driver}
-use Rattle.tl_check.specs.Bounds.{statements_level, statements, values_level, driver_values, blocks_level, nested_blocks, forks_level, nested_forks, operators, most_operators, longest_level, longest_expr}
+use Rattle.tl_check.specs.Bounds.{statements_level, statements, values_level, driver_values, blocks_level, nested_blocks, forks_level, nested_forks, most_operators, longest_level, longest_expr}
 use Rattle.tl_check.proofs.Unrolled.{fold-Poke, fold-Peek, fold-Expect, fold-Step, fold-Let, fold-Set, fold-Join, fold-JoinStep, fold-Driver, fold-ResetFor}
 use Rattle.tl_written.proofs.Gives.{Gives, Always, Any, any, gives_to, gives_both, gives_after, gives_either, gives_mark, gives_many, gives_grow, gives_second}
 use Rattle.tl_written.proofs.ExprsWritten.{Short, gives_expr, gives_from_number, gives_other_expr}

@@ -62,7 +62,23 @@ const LOOP: &str = "circuit L :
     connect out, w
 ";
 
-const SIGNED: &str = "circuit S :
+const INDEXED: &str = "circuit V :
+  module V :
+    input v : UInt<4>[3]
+    input idx : UInt<2>
+    output out : UInt<4>
+    connect out, v[idx]
+";
+
+const INDEXED_TEST: &str = "poke v[2] = 7; poke idx = 2; peek out; poke idx = 3; peek out;";
+
+const INDEXED_REPORT: &str = "circuit V
+0 / 1 peek out = 7
+0 / 1 peek out = 0
+finished at 0 after 6 actions, 2 records
+";
+
+pub(super) const SIGNED: &str = "circuit S :
   module S :
     input a : SInt<4>
     output out : SInt<5>
@@ -123,7 +139,7 @@ output io.deq.bits UInt<8>
 ";
 
 /// The status of these words over a desk that holds the circuit as `c` and the test as `t`, and what was put.
-fn answered(
+pub(super) fn answered(
     alloc: Global,
     words: &[&str],
     circuit: &str,
@@ -146,7 +162,7 @@ fn circuits_of_each_kind_are_run(rt: HostRuntime) -> Result<(), Fail> {
             1,
             SIGNED_REPORT,
         ),
-        (SIGNED, "poke a = 8;", 5, "test: not in the first form\n"),
+        (INDEXED, INDEXED_TEST, 0, INDEXED_REPORT),
         (OVERRIDDEN, "poke a = 1; peek out;", 0, overridden),
     ];
     for (circuit, test, status, report) in rows {

@@ -14,6 +14,9 @@ returns c = record {
   of_nothing = refl;
   of_two_peeks = run_same adder of_adder (first_world adder) (Peek 1 (s 2) ∷ Poke 2 (s 0) 255 ∷ Peek 3 (s 2) ∷ []);
   goes_on = run_same adder of_adder (first_world adder) (Expect 1 (s 2) 1 ∷ Peek 2 (s 2) ∷ []);
-  ends_at_step = run_same adder of_adder (first_world adder) (Arrive 1 ∷ Expect 2 (s 2) 1 ∷ Arrive 3 ∷ Peek 4 (s 2) ∷ []);
+  ends_at_step = run_same adder of_adder (first_world adder) (Arrive 1 1 ∷ Expect 2 (s 2) 1 ∷ Arrive 3 1 ∷ Peek 4 (s 2) ∷ []);
   of_the_delay = run_same delay of_delay (first_world delay) delay_acts;
+  takes_time = refl;
+  at_limit = refl;
+  failed_at_limit = run_same adder of_adder (first_world adder) (Expect 1 (s 2) 1 ∷ Arrive 2 65536 ∷ []);
 }

@@ -8,7 +8,7 @@ use Rattle.fir_flat.proofs.limits.count_parts.Goals as goal
 
 pub returns : goal.returns
 returns c =
-    let modules : c.in_ok-modules.modules ≡ c.args.circuit.now.modules = c.in_ok-modules.ensures ∙ c.items.ensures in
+    let modules : c.args.modules.now ≡ c.args.circuit.now.modules = c.requires.modules in
     c.in_ok-parts.ensures
     ∙ ap₂ (λ (ms : List Module) (place : ℕ). cut (weight_in ms place)) modules
     (c.place_of-place.ensures ∙ ap₂ (λ (ms : List Module) (name : List ℕ). place_of ms name) modules c.bytes.ensures)

@@ -9,6 +9,7 @@ use Rattle.fir_flat.specs.Measures.{measure, connect_weight, reached, driven}
 use Rattle.fir_flat.specs.Kinds.{seen, kind_shape, Weighs}
 use Rattle.fir_flat.specs.Tallies.{declared_in, Tallies}
 use Rattle.fir_flat.proofs.Agreed.{agrees}
+use Rattle.fir_flat.proofs.Cutting.{cut_inside}
 use Rattle.fir_flat.proofs.Moved.{moves_by, moves_nothing, moves_when, whole, body-Node, body-Inst, body-Connect, body-Invalid, body-Skip, body-Verif}
 use Rattle.fir_flat.proofs.own.+count_own.Goals as goal
 
@@ -26,27 +27,26 @@ count_stmt-returns-in-Verif t c =
 pub count_stmt-returns-in-Connect : goal.count_stmt-returns-in-Connect
 count_stmt-returns-in-Connect t c =
     moves_by c.args.modules.now c.args.stmt.now (connect c.in-Connect.line c.in-Connect.sink c.in-Connect.value) c.args.known.now c.args.known.now
-    (seen c.args.known.now) c.args.tally.now c.add-in-Connect.new.self 0
-    (connect_weight (measure (seen c.args.known.now) c.in-Connect.sink) (measure (seen c.args.known.now) c.in-Connect.value)) 0 c.connect_weight.result []
+    (seen c.args.known.now) c.args.tally.now c.count_connect.new.tally 0
+    (connect_weight (measure (seen c.args.known.now) c.in-Connect.sink) (measure (seen c.args.known.now) c.in-Connect.value)) 0
+    (cut (connect_weight (measure (seen c.args.known.now) c.in-Connect.sink) (measure (seen c.args.known.now) c.in-Connect.value))) []
     (λ rest. ap (λ s. statement s rest) c.in-Connect.is ∙ body-Connect c.in-Connect.line c.in-Connect.sink c.in-Connect.value rest)
     (λ rest. omega arith) (λ rest. refl) (λ rest. refl) refl
-    c.add-in-Connect.ensures.signals (omega arith) c.add-in-Connect.ensures.parts
-    (c.connect_weight.ensures (measure (seen c.args.known.now) c.in-Connect.sink) (measure (seen c.args.known.now) c.in-Connect.value)
-    c.weigh-sink.ensures
-    c.weigh-value-in-Connect.ensures)
-    (ap (λ v. v.items) c.add-in-Connect.ensures.instances ∙ sym (append-nil c.args.tally.now.instances.items)) (whole c.args.known.now)
+    c.count_connect.ensures.signals (omega arith)
+    (cut_inside c.args.tally.now.parts _ c.count_connect.new.tally.parts c.count_connect.ensures.parts) refl
+    (ap (λ v. v.items) c.count_connect.ensures.instances ∙ sym (append-nil c.args.tally.now.instances.items)) (whole c.args.known.now)
 
 pub count_stmt-returns-in-Invalid : goal.count_stmt-returns-in-Invalid
 count_stmt-returns-in-Invalid t c =
     moves_by c.args.modules.now c.args.stmt.now (invalid c.in-Invalid.line c.in-Invalid.sink) c.args.known.now c.args.known.now
-    (seen c.args.known.now) c.args.tally.now c.add-in-Invalid.new.self 0
-    (reached (measure (seen c.args.known.now) c.in-Invalid.sink) * driven (measure (seen c.args.known.now) c.in-Invalid.sink) 0) 0 c.invalid_weight.result []
+    (seen c.args.known.now) c.args.tally.now c.count_invalid.new.tally 0
+    (reached (measure (seen c.args.known.now) c.in-Invalid.sink) * driven (measure (seen c.args.known.now) c.in-Invalid.sink) 0) 0
+    (cut (reached (measure (seen c.args.known.now) c.in-Invalid.sink) * driven (measure (seen c.args.known.now) c.in-Invalid.sink) 0)) []
     (λ rest. ap (λ s. statement s rest) c.in-Invalid.is ∙ body-Invalid c.in-Invalid.line c.in-Invalid.sink rest)
     (λ rest. omega arith) (λ rest. refl) (λ rest. refl) refl
-    c.add-in-Invalid.ensures.signals (omega arith) c.add-in-Invalid.ensures.parts
-    (c.invalid_weight.ensures (measure (seen c.args.known.now) c.in-Invalid.sink)
-    c.weigh-sink-in-Invalid.ensures)
-    (ap (λ v. v.items) c.add-in-Invalid.ensures.instances ∙ sym (append-nil c.args.tally.now.instances.items)) (whole c.args.known.now)
+    c.count_invalid.ensures.signals (omega arith)
+    (cut_inside c.args.tally.now.parts _ c.count_invalid.new.tally.parts c.count_invalid.ensures.parts) refl
+    (ap (λ v. v.items) c.count_invalid.ensures.instances ∙ sym (append-nil c.args.tally.now.instances.items)) (whole c.args.known.now)
 
 pub count_stmt-returns-in_ok-declare-in-Node : goal.count_stmt-returns-in_ok-declare-in-Node
 count_stmt-returns-in_ok-declare-in-Node t c =
@@ -81,8 +81,8 @@ count_stmt-returns-in_ok-declare-in-Inst t c =
     (λ rest. ap (λ s. statement s rest) c.in-Inst.is ∙ body-Inst c.in-Inst.line c.in-Inst.name c.in-Inst.module rest)
     (λ rest. refl) (λ rest. refl) (λ rest. refl)
     (c.in_ok-declare-in-Inst.ensures.names
-    ∙ ap (λ n. seen c.args.known.now ++ bound n (ports_shape c.ports_at.result.now) Source 0 ∷ []) c.bytes-in-Inst-2.ensures
-    ∙ ap (λ ps. seen c.args.known.now ++ bound c.in-Inst.name (ports_shape ps) Source 0 ∷ []) c.ports_at.ensures
+    ∙ ap (λ n. seen c.args.known.now ++ bound n (kind_shape c.instance_at-kind.result) Source 0 ∷ []) c.bytes-in-Inst-2.ensures
+    ∙ ap (λ (t : Shape). seen c.args.known.now ++ bound c.in-Inst.name t Source 0 ∷ []) c.instance_at-kind.ensures
     ∙ ap (λ p. seen c.args.known.now ++ bound c.in-Inst.name (ports_shape (module_at c.args.modules.now p).ports) Source 0 ∷ []) at)
     c.add-in-Inst.ensures.signals (omega arith) c.add-in-Inst.ensures.parts (omega arith)
     (c.in_ok-push-in-Inst.ensures.items ∙ ap (λ v. v.items ++ c.place_of-place.result ∷ []) c.add-in-Inst.ensures.instances

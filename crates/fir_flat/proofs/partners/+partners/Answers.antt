@@ -10,7 +10,7 @@ use Rattle.fir_flat.proofs.partners.+partners.Goals as goal
 pub put_field_partners-loop-field-preserved : goal.put_field_partners-loop-field-preserved
 put_field_partners-loop-field-preserved t c =
     let u : Shape = kind_shape c.args.other in
-    let place : Finds (field_named c.bytes.result.now u) c.find-place.result = c.find-place.ensures u c.in_ok-others.ensures in
+    let place : Finds (field_named c.bytes.result.now u) c.field-place.result = c.field-place.ensures in
     let name : c.bytes.result.now ≡ (out-Field c.field-item.result).name = c.bytes.ensures in
     let start : c.in_ok-start.start ≡ c.args.before + (field_named c.bytes.result.now u).before
     = subst (λ r. IfOk r (λ n. n ≡ c.args.before + (field_named c.bytes.result.now u).before)) c.in_ok-start.was

@@ -8,7 +8,7 @@ use Rattle.fir_flat.proofs.partners.put_port_partners.Goals as goal
 pub loop-port-preserved : goal.loop-port-preserved
 loop-port-preserved c =
     let u : Shape = kind_shape c.args.other in
-    let place : Finds (field_named c.bytes.result.now u) c.find-place.result = c.find-place.ensures u c.in_ok-others.ensures in
+    let place : Finds (field_named c.bytes.result.now u) c.field-place.result = c.field-place.ensures in
     let name : c.bytes.result.now ≡ c.port-item.result.name = c.bytes.ensures in
     let start : c.in_ok-start.start ≡ 0 + (field_named c.bytes.result.now u).before
     = subst (λ r. IfOk r (λ n. n ≡ 0 + (field_named c.bytes.result.now u).before)) c.in_ok-start.was

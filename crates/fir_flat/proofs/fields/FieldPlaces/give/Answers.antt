@@ -11,5 +11,5 @@ returns-clause-ok c =
     record {
       each = λ q.
           u.0 (record { ref_ptr = (0, 0); now = q })
-          ∙ ap (λ b. if b && bytes_eq c.args.name.now q then Some c.args.place else field_given q c.args.self.now) (sym g);
+          ∙ ap (λ b. if b && bytes_eq c.args.name.now q then Some c.args.spot else field_given q c.args.self.now) (sym g);
     }

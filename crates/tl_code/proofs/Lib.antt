@@ -1,0 +1,10 @@
+pub mod Known
+pub mod Needed
+pub mod Children
+pub mod First
+pub mod Depths
+pub mod Made
+pub mod Laying
+pub mod Parts
+pub mod Standing
+pub mod Alike

@@ -1,4 +1,0 @@
-pub mod Lex
-pub mod Grammar
-pub mod Fault
-pub mod TestForm
