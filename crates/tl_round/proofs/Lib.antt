@@ -1,0 +1,13 @@
+pub mod Chunks
+pub mod Tokens
+pub mod Sound
+pub mod Keeps
+pub mod Depth
+pub mod ExprSpelling
+pub mod ExprLines
+pub mod Ports
+pub mod Lists
+pub mod Rows
+pub mod Unlined
+pub mod Blocks
+pub mod Whole

@@ -1,0 +1,2 @@
+pub mod Relined
+pub mod Examples
