@@ -1,15 +1,16 @@
 -- Expressions looked up: the definition's value, a form at a time.
-use Rattle.std.proofs.Common.{ℕ, zero, suc, ◌≡◌, ◌+◌, ◌*◌, ◌<◌, ◌∙◌, Bool, false, List, [], ◌∷◌, ◌++◌, map, length, get_or, take, refl, sym, ap, ap₂, arith, slice_index, slice_index_or, None, add-one}
+use Rattle.std.proofs.Common.{ℕ, zero, suc, ◌≡◌, ◌+◌, ◌*◌, ◌<◌, ◌∙◌, ◌&&◌, Bool, true, false, not, Option, Some, List, [], ◌∷◌, ◌++◌, map, length, get_or, take, refl, sym, ap, ap₂, arith, slice_index, slice_index_or, None, add-one}
 use Rattle.std.proofs.Math.Path.{fun_ext}
 use Rattle.std.proofs.Math.Seq.{take-suc}
 use Rattle.std.proofs.lemmas.List.{map-append, length-map}
 use Rattle.std.proofs.lemmas.List.FromFn.{length-map-range_with_len}
 use Rattle.std.proofs.lemmas.Grind.{common_steps}
-use Rattle.std.specs.List.{range_with_len}
+use Rattle.std.specs.List.{range_with_len, flat_map}
 use Rattle.tb_base.specs.declared.op.Op.{Op}
 use Rattle.tb_base.specs.declared.op.Op.TheVariants.{Mux}
 use Rattle.net_core.specs.declared.tree.GroundExpr.{GroundExpr}
 use Rattle.net_core.specs.declared.tree.GroundExpr.TheVariants as to
+use Rattle.net_core.specs.declared.tree.Ground.{Ground}
 use Rattle.net_core.specs.declared.tree.Ground.TheVariants as out
 use Rattle.fir_flat.specs.declared.kinds.Flow.{Flow}
 use Rattle.fir_flat.specs.declared.kinds.Flow.TheVariants.{Fixed}
@@ -17,11 +18,11 @@ use Rattle.fir_flat.specs.declared.parts.Part.{Part}
 use Rattle.fir_flat.specs.declared.worth.Worth.{Worth}
 use Rattle.fir_flat.specs.declared.worth.Worth.TheVariants as worth
 use Rattle.fir_flat.specs.declared.resolve.Operands.{Operands}
-use Rattle.fir_flat.specs.Shapes.{Shape, Leaf, leaves, whole, size, element, elements, partners, is_signed}
+use Rattle.fir_flat.specs.Shapes.{Shape, ground, clock, empty, field, vector, Leaf, leaves, whole, in_field, in_element, size, element, elements, partners, is_signed}
 use Rattle.fir_flat.specs.Values.{Value, operand, indexed, chosen, computed, selected, leaf_signed, applied}
 use Rattle.fir_flat.specs.Worths.{Ends, ends, ends_of}
 use Rattle.fir_flat.specs.Parts.{turned_part, turned_parts}
-use Rattle.fir_flat.specs.Resolving.{shown, Given, SignsElements, plain_value}
+use Rattle.fir_flat.specs.Resolving.{shown, unsigned, Given, SignsElements, plain_value}
 use Rattle.fir_flat.proofs.Ended.{ends-Indexed, ends-Chosen, ends-Applied}
 
 -- computed indices
@@ -128,3 +129,68 @@ taken_next f xs k x l e =
     let le : k < length (map f xs) = grind (arith, common_steps) in
     let at : get_or (map f xs) k (f x) ≡ f x = grind (arith, common_steps) in
     ap (λ j. take j (map f xs)) (add-one k) ∙ take-suc (map f xs) k (f x) le ∙ ap (λ y. take k (map f xs) ++ y ∷ []) at
+
+-- types without an SInt
+
+abbrev Unsigned : List Leaf → Type 0
+Unsigned ls = (k : ℕ) → (slice_index_or ls k (whole false None)).signed ≡ false
+
+none_empty : Unsigned []
+none_empty zero = refl
+none_empty (suc k) = refl
+
+none_joined : (xs ys : List Leaf) → Unsigned xs → Unsigned ys → Unsigned (xs ++ ys)
+none_joined [] ys p q k = q k
+none_joined (x ∷ xs) ys p q zero = p 0
+none_joined (x ∷ xs) ys p q (suc k) = none_joined xs ys (λ j. p (suc j)) q k
+
+none_mapped : (f : Leaf → Leaf) (xs : List Leaf) → ((l : Leaf) → (f l).signed ≡ l.signed) → Unsigned xs → Unsigned (map f xs)
+none_mapped f [] h p k = p k
+none_mapped f (x ∷ xs) h p zero = h x ∙ p 0
+none_mapped f (x ∷ xs) h p (suc k) = none_mapped f xs h (λ j. p (suc j)) k
+
+none_repeated : (ls : List Leaf) → Unsigned ls → (ns : List ℕ) → Unsigned (flat_map (λ k. map (in_element k) ls) ns)
+none_repeated ls p [] = none_empty
+none_repeated ls p (n ∷ ns) =
+    none_joined (map (in_element n) ls) (flat_map (λ k. map (in_element k) ls) ns) (none_mapped (in_element n) ls (λ l. refl) p) (none_repeated ls p ns)
+
+first_true : (a b : Bool) → (a && b) ≡ true → a ≡ true
+first_true true b h = refl
+first_true false b h = h
+
+second_true : (a b : Bool) → (a && b) ≡ true → b ≡ true
+second_true true b h = h
+second_true false b h = absurd (let q : false ≡ true = h in cc)
+
+unsigned_leaves : (t : Shape) → unsigned t ≡ true → Unsigned (leaves t)
+unsigned_leaves (ground false w) e zero = refl
+unsigned_leaves (ground false w) e (suc k) = none_empty k
+unsigned_leaves (ground true w) e k = absurd (let q : false ≡ true = e in cc)
+unsigned_leaves clock e k = none_empty k
+unsigned_leaves empty e k = none_empty k
+unsigned_leaves (field flip name of rest) e k =
+    none_joined (map (in_field flip name) (leaves of)) (leaves rest)
+    (none_mapped (in_field flip name) (leaves of) (λ l. refl) (unsigned_leaves of (first_true (unsigned of) (unsigned rest) e)))
+    (unsigned_leaves rest (second_true (unsigned of) (unsigned rest) e)) k
+unsigned_leaves (vector of n) e k = none_repeated (leaves of) (unsigned_leaves of e) (range_with_len 0 n) k
+
+-- what stands for an element of none
+abbrev pub zeros : Shape → Flow → Value
+zeros ty flow = record { ty = ty; flow = flow; part = λ k. to.Lit false (Some 0) false 0; drive = λ line k given. [] }
+
+pub resolved-absent : (v index : Value) → elements v.ty ≡ 0 → unsigned (element v.ty) ≡ true → zeros (element v.ty) v.flow ≡ indexed v index
+resolved-absent v index none plain =
+    ap (λ (p : ℕ → GroundExpr). raw p (λ line k given. [])) (fun_ext (λ (k : ℕ).
+    ap (λ b. to.Lit b (Some 0) false 0) (sym (unsigned_leaves (element v.ty) plain k))))
+    ∙ ap counted (sym none)
+  where
+    raw : (ℕ → GroundExpr) → (ℕ → ℕ → Option GroundExpr → List Ground) → Value
+    raw p d = record { ty = element v.ty; flow = v.flow; part = p; drive = d }
+
+    counted : ℕ → Value
+    counted c = record {
+      ty = element v.ty;
+      flow = v.flow;
+      part = λ k. selected (leaf_signed (element v.ty) k) (index.part 0) (map (λ i. v.part (i * size (element v.ty) + k)) (range_with_len 0 c));
+      drive = λ line k given. map (λ i. out.When line (to.IndexIs (index.part 0) i) (v.drive line (i * size (element v.ty) + k) given) []) (range_with_len 0 c);
+    }

@@ -1,5 +1,5 @@
 -- What contracts see of an expression whose names and places are looked up.
-use Rattle.std.specs.Prelude.{◌≡◌, ℕ, Bool, false, List, map, length, slice_index_or}
+use Rattle.std.specs.Prelude.{◌≡◌, ◌&&◌, ℕ, Bool, true, false, not, List, map, length, slice_index_or}
 use Rattle.tb_base.specs.Row.{row_signed}
 use Rattle.tb_base.specs.declared.op.Op.{Op}
 use Rattle.net_core.specs.declared.tree.GroundExpr.{GroundExpr}
@@ -7,7 +7,7 @@ use Rattle.net_core.specs.declared.tree.GroundExpr.TheVariants as to
 use Rattle.fir_flat.specs.declared.kinds.Flow.{Flow}
 use Rattle.fir_flat.specs.declared.resolve.Resolved.{Resolved}
 use Rattle.fir_flat.specs.declared.resolve.Operands.{Operands}
-use Rattle.fir_flat.specs.Shapes.{Shape, is_signed}
+use Rattle.fir_flat.specs.Shapes.{Shape, ground, clock, empty, field, vector, is_signed}
 use Rattle.fir_flat.specs.Values.{Value, operand, computed, number, selected, leaf_signed}
 use Rattle.fir_flat.specs.Kinds.{kind_shape}
 use Rattle.fir_flat.specs.Worths.{Ends, ends, ends_of}
@@ -27,6 +27,14 @@ pub record Given (vs : List Value) (o : Operands) : Type 0 where
 pub record SignsElements (t : Shape) (count : ℕ) (signs : List Bool) : Type 0 where
   pub same : (k : ℕ) (index : GroundExpr) (items : List GroundExpr) → length items ≡ count
       → selected (slice_index_or signs k false) index items ≡ selected (leaf_signed t k) index items
+
+-- whether no ground part is an SInt
+abbrev pub unsigned : Shape → Bool
+unsigned (ground signed width) = not signed
+unsigned clock = true
+unsigned empty = true
+unsigned (field flip name of rest) = unsigned of && unsigned rest
+unsigned (vector of n) = unsigned of
 
 -- an operation other than a mux
 abbrev pub plain_value : Op → List Value → List ℕ → Value

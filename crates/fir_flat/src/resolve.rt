@@ -1,5 +1,5 @@
 //! Expressions of the text, with their names and places looked up.
-ghost use Rattle.std.specs.Prelude.{◌≡◌, ◌++◌, ◌∷◌, [], ℕ, List, map, IfOk, OnOk};
+ghost use Rattle.std.specs.Prelude.{◌≡◌, ◌++◌, ◌∷◌, [], ℕ, List, Some, false, map, IfOk, OnOk};
 ghost use Rattle.net_core.specs.declared.tree.GroundExpr.TheVariants as to;
 ghost use Rattle.fir_flat.specs.Values.{Value, value, named, bound_named, field_of, in_place, element_of, inside, indexed, chosen, operand, computed, number};
 ghost use Rattle.fir_flat.specs.Kinds.{kind_shape, bound_of, seen, Finds};
@@ -9,7 +9,7 @@ ghost use Rattle.fir_flat.specs.Resolving.{resolved, Given, SignsElements, plain
 use crate::counts::exact;
 use crate::kinds::{Flow, Kind, Known, Place};
 use crate::partners::partners_of;
-use crate::parts::parts_of_kind;
+use crate::parts::{is_unsigned_kind, parts_of_kind};
 use crate::scope::Scope;
 use crate::weights::has_sign;
 use crate::worth::{Worth, times};
@@ -180,6 +180,13 @@ fn put_in_place<'a>(
     } else {
         of.flow
     };
+    if let Worth::Lit { .. } = &of.worth {
+        return Ok(Resolved {
+            kind: place.of,
+            flow,
+            worth: of.worth,
+        });
+    }
     let before = exact(place.before)?;
     part_behind(alloc, of, place.of, flow, before)
 }
@@ -241,6 +248,23 @@ fn signs_of(alloc: Global, kind: Kind, count: u32) -> Result<Vec<bool>, Memory>
     Ok(signs)
 }
 
+/// What stands for an element of none, of whose ground parts none is an SInt: whatever is asked of
+/// them is the same, so that nothing of the type is looked at.
+fn absent<'a>(kind: Kind<'a>, flow: Flow) -> Resolved<'a>
+    ensures { resolved result ≡ record { ty = kind_shape kind.entry; flow = flow; part = λ k. to.Lit false (Some 0) false 0; drive = λ line k given. [] } }
+{
+    Resolved {
+        kind,
+        flow,
+        worth: Worth::Lit {
+            signed: false,
+            width: Some(0),
+            negative: false,
+            magnitude: 0,
+        },
+    }
+}
+
 fn resolve_index<'a>(
     alloc: Global,
     of: Resolved<'a>,
@@ -249,8 +273,11 @@ fn resolve_index<'a>(
     ensures { IfOk result (λ r. resolved r ≡ indexed (resolved of.entry) (resolved index.entry)) }
 {
     let kind = of.kind.element();
-    let size = exact(kind.size())?;
     let count = of.kind.elements();
+    if count == 0 && is_unsigned_kind(kind) {
+        return Ok(absent(kind, of.flow));
+    }
+    let size = exact(kind.size())?;
     let signs = signs_of(alloc, kind, count)?;
     let flow = of.flow;
     let worth = Boxed::new(alloc, of.worth)?;
