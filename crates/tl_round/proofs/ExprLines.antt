@@ -19,7 +19,7 @@ use Rattle.tl_ast.specs.declared.tree.TestOp.{TestOp}
 use Rattle.tl_ast.specs.ExprGrammar.{Counted, looseness, literal, variable, plain, other_operand, operand, one_more, level, comparison, expr_in, parens, uncounted, expr, expr_limits}
 use Rattle.tl_check.specs.Bounds.{operators_level, operators}
 use Rattle.tl_check.proofs.Unrolled.{fold-Num, fold-Var, fold-Neg, fold-Two}
-use Rattle.tl_round.proofs.Chunks.{Before, Line, Says, says_as, line_both, line_after, line_spaced, line_more, line_text, line_end}
+use Rattle.tl_round.proofs.Chunks.{nothing_chunk, Line, says_as, line_both, line_after, line_spaced, line_more, line_text, line_end}
 use Rattle.tl_round.proofs.Tokens.{is_word_text, number_line, name_line, operator_line, minus_line, open_paren_line, close_paren_line}
 use Rattle.tl_round.proofs.Depth.{depth, is_sound, sound_level, Fine, depth_neg, depth_two, suc_if, six, not_below}
 use Rattle.tl_round.proofs.ExprSpelling.{room_spelled, operand_level, level_operand, level_wider, level_whole, level_grown, whole_compared, neg_spelled}
@@ -29,7 +29,7 @@ pub line_as : {A B : Type 0} {P : Part A} (Q : Part B) {n : Bool} {t : List ℕ}
 line_as Q b go h p = says_as go (h p)
 
 pub room_line : (count : ℕ) → count < 64 → Line (room (Some 64) count) false [] (tt {0})
-room_line count h p = record { items = []; chunk = Rattle.tl_round.proofs.Chunks.nothing_chunk p; spelled = room_spelled count h }
+room_line count h p = record { items = []; chunk = nothing_chunk p; spelled = room_spelled count h }
 
 -- ---- the parts, where so many parentheses may be opened
 
