@@ -83,8 +83,8 @@ abbrev pub child_number : List ℕ → ℕ
 child_number [] = 0
 child_number (n ∷ ns) = last_of n ns
 
--- The innermost count stands last in a state, and first in the machine; a handle's slot has a child's path in a state, and its number in the
--- machine.
+-- The innermost count stands last in a state, and first in the machine. A handle's slot has a child's path in a state, and its number
+-- in the machine.
 abbrev pub core_of : ThreadState → Core
 core_of s = record { pc = s.pc; locals = s.locals; handles = map (option_map child_number) s.handles; loops = reverse s.loops; forks = s.forks }
 

@@ -26,7 +26,8 @@ RootStateStands = (c : Compiled) → IsCode c → StandsUnder c (root_state c) (
 
 -- a state that stands for a thread fits, where its children are its own and its counts are small
 abbrev pub StandingFits : Type 0
-StandingFits = (c : Compiled) (s : ThreadState) (i : Inner) → StandsUnder c s i → OwnChildren s → IsJoined s s.joined → s.acts < 4294967295 → s.forks < 4294967295 → Fits c s
+StandingFits = (c : Compiled) (s : ThreadState) (i : Inner) → StandsUnder c s i → OwnChildren s → IsJoined s s.joined
+    → s.acts < 4294967295 → s.forks < 4294967295 → Fits c s
 
 -- the root thread has no children at the beginning
 abbrev pub RootOwnsChildren : Type 0

@@ -6,3 +6,4 @@ pub mod Completing
 pub mod Starting
 pub mod Moving
 pub mod Owning
+pub mod Holding

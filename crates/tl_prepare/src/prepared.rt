@@ -1,9 +1,8 @@
 //! The next action of a thread.
 ghost use Rattle.std.specs.Prelude.{◌≡◌, ◌<◌, ◌++◌, ◌∷◌, [], None, suc, length, replicate, IfOk};
 ghost use Rattle.std.specs.Option.{option_copied};
-ghost use Rattle.tl_code.specs.Codes.{Fits};
+ghost use Rattle.tl_code.specs.Codes.{Fits, Holds};
 ghost use Rattle.tl_prepare.specs.Steps.{core_of_runner};
-ghost use Rattle.tl_prepare.specs.Runs.{code_at, HoldsAll};
 ghost use Rattle.tl_prepare.specs.Given as given;
 ghost use Rattle.tl_prepare.specs.Given.{IsPrepared, Ran, joined_by, ends, moved, stayed, newborn};
 
@@ -182,7 +181,7 @@ fn complete(alloc: Global, thread: &ThreadState, executed: Executed) -> Result<P
 pub fn prepare(alloc: Global, code: &Code, thread: &ThreadState) -> Result<Prepared, Memory>
     requires { Fits code.now thread.now }
     ensures from { IfOk result (λ p. p.from ≡ thread.now) }
-    ensures fetched { IfOk result (λ p. HoldsAll (code_at code.now.placed) p.fetched) }
+    ensures fetched { IfOk result (λ p. Holds code.now p.fetched) }
     ensures gives { IfOk result (λ p. IsPrepared p) }
 {
     a_fitting_state_stands();
