@@ -5,6 +5,7 @@ pub mod Refines
 pub mod Runs
 pub mod Pieces
 pub mod Fitting
+pub mod Keeping
 pub mod Allowing
 pub mod Checking
 pub mod Ruling

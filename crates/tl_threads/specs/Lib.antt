@@ -9,3 +9,4 @@ pub mod Examples
 pub mod Fits
 pub mod Allowed
 pub mod Regions
+pub mod Behind

@@ -1,6 +1,7 @@
 //! Laws of threads and of code. Each function has no body: its contract is the law.
 ghost use Rattle.tl_threads.specs.Laws.{OperandsAreValues, OneAction, CodeRefines};
 ghost use Rattle.tl_threads.specs.Fits.{StandsFits, FitsStands, RootStands};
+ghost use Rattle.tl_threads.specs.Behind.{ActsFit};
 ghost use Rattle.tl_threads.specs.Allowed.{RulesAllow, AllowedIsChecked, RulesBound, RulesStand};
 ghost use Rattle.tl_threads.specs.Regions.{MovesFit, RootFits, ThreadsMeetLaws};
 
@@ -39,6 +40,12 @@ pub fn what_stands_fits()
 /// Each place of a test's code, with slots and counts that fit it, stands for a thread.
 pub fn what_fits_stands()
     ensures { FitsStands }
+{}
+
+/// What fits a place of a test's code fits again behind an act, and so does a child that begins. A handle that is known there was known before
+/// the act or is the one that was just forked, and a child that was joined is one of a handle that was known.
+pub fn acts_fit_again()
+    ensures { ActsFit }
 {}
 
 /// The beginning of a test's code stands for the root thread.
