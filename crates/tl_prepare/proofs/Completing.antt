@@ -13,10 +13,10 @@ use Rattle.tl_prepare.specs.declared.runner.Runner.{Runner}
 use Rattle.tl_prepare.specs.declared.execute.Executed.{Executed}
 use Rattle.tl_prepare.specs.declared.step.Stepped.{Stepped}
 use Rattle.tl_prepare.specs.declared.step.Stepped.TheVariants.{Jumped, Went, Acts, Forks, Stuck}
-use Rattle.tl_prepare.specs.Steps.{core_of_runner, doing_of, after, Same, OneMore, Children, Named, NamesChild}
-use Rattle.tl_prepare.specs.Runs.{HoldsAll, Gives}
+use Rattle.tl_prepare.specs.Steps.{core_of_runner, doing_of, after, Same, OneMore, Children, Named, NamesChild, InSlot}
+use Rattle.tl_prepare.specs.Runs.{HoldsAll, Read, Gives}
 use Rattle.tl_prepare.specs.Work.{Work}
-use Rattle.tl_prepare.specs.Given.{joined_by, moved, stayed, state_after, newborn, next_child, OfChild, ChildrenAfter, IsNext, IsBorn, region_of, most_local, Ran, IsPrepared}
+use Rattle.tl_prepare.specs.Given.{joined_by, moved, stayed, state_after, newborn, next_child, OfChild, OfSlot, ChildrenAfter, IsNext, IsBorn, region_of, most_local, Ran, IsPrepared}
 
 nothing : Go
 nothing s = None
@@ -53,6 +53,19 @@ child_of_act (act.JoinStep l child) s hs e n = subst (λ (hs : List (Option (Lis
 child_of_act (act.Spend l) s hs e n = tt
 child_of_act act.End s hs e n = tt
 
+slot_of_act : (a : Act) (s t : ThreadState) (start r : Runner) (fetched : List Fetched) (done : Did) → start.handles.items ≡ s.handles → done ≡ did_act a r → NamesChild start.handles.items (Acts a)
+    → InSlot (Read fetched) (Acts a) start r → OfSlot fetched s t done a
+unfolding did_act
+slot_of_act (act.Poke l p raw) s t start r fetched done eh ed n i = tt
+slot_of_act (act.Peek l p into) s t start r fetched done eh ed n i = tt
+slot_of_act (act.Expect l p wanted) s t start r fetched done eh ed n i = tt
+slot_of_act (act.Fork l child) s t start r fetched done eh ed n i = absurd n
+slot_of_act (act.Join l child) s t start r fetched done eh ed n (pc, slot, o, b, e) = (pc, slot, o, ap (λ d. d.core.pc) ed ∙ b, ap (λ hs. slice_get hs slot) (sym eh) ∙ e)
+slot_of_act (act.Arrive l m) s t start r fetched done eh ed n i = tt
+slot_of_act (act.JoinStep l child) s t start r fetched done eh ed n (pc, slot, o, b, e) = (pc, slot, o, ap (λ d. d.core.pc) ed ∙ b, ap (λ hs. slice_get hs slot) (sym eh) ∙ e)
+slot_of_act (act.Spend l) s t start r fetched done eh ed n i = tt
+slot_of_act act.End s t start r fetched done eh ed n i = tt
+
 -- an act that is no fork
 act_given : (s : ThreadState) (a : Act) (e : Executed) → e.step ≡ Acts a → Ran s e → IsPrepared (record { from = s; act = a; next = state_after s e.run a; child = None; fetched = e.fetched.items })
 unfolding did_act
@@ -66,6 +79,8 @@ act_given s a e es ran =
       under = λ f h. ap (λ c. run f most_local g.count 0 c) (sym ran.core) ∙ g.under f h;
       act = ap (λ d. d.doing) d;
       of_child = child_of_act a s ran.start.handles.items ran.handles (subst (λ (q : Stepped). NamesChild ran.start.handles.items q) es g.child);
+      slot = slot_of_act a s (state_after s e.run a) ran.start e.run e.fetched.items g.done ran.handles d (subst (λ (q : Stepped). NamesChild ran.start.handles.items q) es g.child)
+          (subst (λ (q : Stepped). InSlot (Read e.fetched.items) q ran.start e.run) es g.slot);
       next = subst (λ (d : Did). IsNext s d a (state_after s e.run a)) (sym d) (next_of_act a s e.run (m.path ∙ ran.path) (m.handles ∙ ran.handles) (m.forks ∙ ran.forks));
       child = ap (λ d. d.child) d;
     }
@@ -84,6 +99,7 @@ fork_given s l begin g child e es ran =
     let v = ran.gives in
     let d : v.done ≡ did_fork l begin g e.run = sym (one_did (did_fork l begin g e.run) v.done (ap (λ q. after q nothing nothing (core_of_runner e.run)) (sym es) ∙ v.stepped nothing nothing)) in
     let m : OneMore child ran.start e.run = subst (λ (q : Stepped). Children q ran.start e.run) es v.children in
+    let q : InSlot (Read e.fetched.items) (Forks l g begin child) ran.start e.run = subst (λ (q : Stepped). InSlot (Read e.fetched.items) q ran.start e.run) es v.slot in
     let c : child ≡ next_child s = m.named ∙ ap (λ p. p ++ ran.start.forks ∷ []) ran.path ∙ ap (λ n. s.path ++ n ∷ []) ran.forks in
     let h : e.run.handles.items ≡ slice_set s.handles m.slot (Some (next_child s)) =
     m.handles ∙ ap (λ hs. slice_set hs m.slot (Some (ran.start.path ++ ran.start.forks ∷ []))) ran.handles ∙ ap (λ p. slice_set s.handles m.slot (Some (p ++ ran.start.forks ∷ []))) ran.path
@@ -94,6 +110,7 @@ fork_given s l begin g child e es ran =
       under = λ f h. ap (λ c. run f most_local v.count 0 c) (sym ran.core) ∙ v.under f h;
       act = ap (λ d. d.doing) d;
       of_child = c;
+      slot = (q.0, q.1, g, q.2, q.3, ap (λ d. d.child) d ∙ ap Some q.4, q.5 ∙ ap (λ hs. slice_set hs q.1 (Some child)) ran.handles);
       next = subst (λ (d : Did). IsNext s d (act.Fork l child) (moved s e.run None)) (sym d)
           (record { core = refl; path = m.path ∙ ran.path; region = refl; acts = refl; joined = refl; children = inr (m.slot, h, m.forks ∙ ap (λ n. suc n) ran.forks) });
       child = (begin, ap (λ d. d.child) d, ap (λ p. newborn (moved s e.run None) p g begin) c);

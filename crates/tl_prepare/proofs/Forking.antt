@@ -45,6 +45,7 @@ fork_is_step full old new l slot to g child ec ep epc el eo ef eh = record {
   counted = λ e. absurd (cc);
   children = record { slot = slot; path = ep; handles = eh; forks = sym more; named = ec };
   child = tt;
+  slot = (old.pc, slot, to, (refl, refl), sym one, eh ∙ ap (λ c. slice_set old.handles.items slot (Some c)) (sym ec));
 }
   where
     did : (pc : ℕ) → List ℕ → List (Option ℕ) → List ℕ → (forks begin : ℕ) → Option Did

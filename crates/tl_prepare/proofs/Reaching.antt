@@ -12,12 +12,13 @@ use Rattle.tl_threads.specs.Stands.{instr_of}
 use Rattle.tl_code.specs.declared.state.Fetched.{Fetched}
 use Rattle.tl_code.specs.Codes.{child_number}
 use Rattle.tl_prepare.specs.declared.act.Act.{Act}
+use Rattle.tl_prepare.specs.declared.act.Act.TheVariants as act
 use Rattle.tl_prepare.specs.declared.runner.Runner.{Runner}
 use Rattle.tl_prepare.specs.declared.execute.Executed.{Executed}
 use Rattle.tl_prepare.specs.declared.step.Stepped.{Stepped}
 use Rattle.tl_prepare.specs.declared.step.Stepped.TheVariants.{Jumped, Went, Acts, Forks, Stuck}
-use Rattle.tl_prepare.specs.Steps.{core_of_runner, doing_of, after, Same, OneMore, Children, NamesChild, IsStep, IsFork}
-use Rattle.tl_prepare.specs.Runs.{code_at, HoldsAll, NotesMore, CanNote, Works, Gives}
+use Rattle.tl_prepare.specs.Steps.{core_of_runner, doing_of, after, Same, OneMore, Children, NamesChild, InSlot, Only, IsStep, IsFork}
+use Rattle.tl_prepare.specs.Runs.{code_at, HoldsAll, Read, NotesMore, CanNote, Works, Gives}
 
 -- what the loop keeps
 pub record Reaches (limit : ℕ) (code : List Placed) (start : Runner) (used : ℕ) (at : Runner) (fetched : List Fetched) : Type 0 where
@@ -167,6 +168,34 @@ module _ (limit : ℕ) (code : List Placed) (start : Runner) (used : ℕ) (at at
   act_child : (q : Stepped) → r ≡ q → NamesChild start.handles.items q
   act_child q e = subst (λ (q : Stepped). NamesChild start.handles.items q) e (subst (λ (hs : List (Option (List ℕ))). NamesChild hs r) w.children.handles st.child)
 
+  read_here : (q : ℕ) (j : Instr) → Only at.pc x q j → Read new q j
+  read_here q j o f h = ap f o.0 ∙ ((notes f).0 h).1 ∙ ap Some (sym o.1)
+
+  slot_there : (slot : ℕ) (child : List ℕ) → slice_get at.handles.items slot ≡ Some (Some child) → slice_get start.handles.items slot ≡ Some (Some child)
+  slot_there slot child e = ap (λ hs. slice_get hs slot) (sym w.children.handles) ∙ e
+
+  in_start : (q : Stepped) → InSlot (Only at.pc x) q at at' → InSlot (Read new) q start at'
+  in_start (Forks l g begin child) (pc, slot, to, o, b, hs) = (pc, slot, to, read_here pc (instr.Fork l g slot to) o, b, hs ∙ ap (λ hs. slice_set hs slot (Some child)) w.children.handles)
+  in_start (Acts (act.Join l child)) (pc, slot, o, b, e) = (pc, slot, read_here pc (instr.Join l slot) o, b, slot_there slot child e)
+  in_start (Acts (act.JoinStep l child)) (pc, slot, o, b, e) = (pc, slot, read_here pc (instr.JoinStep l slot) o, b, slot_there slot child e)
+  in_start (Acts (act.Poke l p raw)) i = tt
+  in_start (Acts (act.Peek l p into)) i = tt
+  in_start (Acts (act.Expect l p wanted)) i = tt
+  in_start (Acts (act.Fork l child)) i = tt
+  in_start (Acts (act.Arrive l m)) i = tt
+  in_start (Acts (act.Spend l)) i = tt
+  in_start (Acts act.End) i = tt
+  in_start Jumped i = tt
+  in_start Went i = tt
+  in_start Stuck i = tt
+
+  gives_slot : (q : Stepped) (e : Executed) → r ≡ q → e.run ≡ at' → e.step ≡ q → e.fetched.items ≡ new → InSlot (Read e.fetched.items) e.step start e.run
+  gives_slot q e ea er es ef =
+      subst (λ (l : List Fetched). InSlot (Read l) e.step start e.run) (sym ef)
+      (subst (λ (v : Runner). InSlot (Read new) e.step start v) (sym er)
+      (subst (λ (p : Stepped). InSlot (Read new) p start at') (sym es)
+      (in_start q (subst (λ (p : Stepped). InSlot (Only at.pc x) p at at') ea st.slot))))
+
   pub gives_act : (a : Act) (e : Executed) → r ≡ Acts a → e.run ≡ at' → e.step ≡ Acts a → e.fetched.items ≡ new → Gives limit start e
   gives_act a e ea er es ef =
       record {
@@ -176,6 +205,7 @@ module _ (limit : ℕ) (code : List Placed) (start : Runner) (used : ℕ) (at at
         stepped = λ jump go. ap (λ q. after q jump go (core_of_runner e.run)) es ∙ ap (λ v. after (Acts a) jump go (core_of_runner v)) er;
         children = subst (λ (q : Stepped). Children q start e.run) (sym es) (subst (λ (v : Runner). Same start v) (sym er) (act_same a ea));
         child = subst (λ (q : Stepped). NamesChild start.handles.items q) (sym es) (act_child (Acts a) ea);
+        slot = gives_slot (Acts a) e ea er es ef;
       }
 
   fork_more : (l begin : ℕ) (g : Region) (child : List ℕ) → r ≡ Forks l g begin child → OneMore child start at'
@@ -198,6 +228,7 @@ module _ (limit : ℕ) (code : List Placed) (start : Runner) (used : ℕ) (at at
     stepped = λ jump go. ap (λ q. after q jump go (core_of_runner e.run)) es ∙ ap (λ v. after (Forks l g begin child) jump go (core_of_runner v)) er;
     children = subst (λ (q : Stepped). Children q start e.run) (sym es) (subst (λ (v : Runner). OneMore child start v) (sym er) (fork_more l begin g child ea));
     child = subst (λ (q : Stepped). NamesChild start.handles.items q) (sym es) (act_child (Forks l g begin child) ea);
+    slot = gives_slot (Forks l g begin child) e ea er es ef;
   }
 
 -- what is placed where the thread stands

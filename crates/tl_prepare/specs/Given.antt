@@ -4,12 +4,14 @@ use Rattle.tb_base.specs.declared.path.Region.{Region}
 use Rattle.tb_base.specs.declared.path.Region.TheVariants.{Main}
 use Rattle.tl_threads.specs.Machine.{Core, Did, Code, run, core_after}
 use Rattle.tl_code.specs.declared.state.ThreadState.{ThreadState}
+use Rattle.tl_code.specs.declared.state.Fetched.{Fetched}
+use Rattle.tl_threads.specs.declared.code.Instr.TheVariants as instr
 use Rattle.tl_code.specs.Codes.{core_of}
 use Rattle.tl_prepare.specs.declared.act.Act.{Act}
 use Rattle.tl_prepare.specs.declared.act.Act.TheVariants as act
 use Rattle.tl_prepare.specs.declared.runner.Runner.{Runner}
 use Rattle.tl_prepare.specs.Steps.{core_of_runner, doing_of, Named}
-use Rattle.tl_prepare.specs.Runs.{HoldsAll, Gives}
+use Rattle.tl_prepare.specs.Runs.{HoldsAll, Read, Gives}
 use Rattle.tl_prepare.specs.Work.{Work}
 use Rattle.tl_prepare.specs.declared.execute.Executed.{Executed}
 
@@ -71,6 +73,18 @@ OfChild s (act.Join l child) = Named s.handles child
 OfChild s (act.JoinStep l child) = Named s.handles child
 OfChild s _ = Unit {0}
 
+-- The slot of a fork or a join is that of an instruction which was read at its place: the child of a fork goes into the slot and begins at the
+-- place behind, and the child of a join is the one in the slot.
+abbrev pub OfSlot : (fetched : List Fetched) → (old new : ThreadState) → Did → Act → Type 0
+OfSlot fetched s t done (act.Fork l child) =
+    (pc : ℕ) × (slot : ℕ) × (region : Region) × (to : ℕ) × Read fetched pc (instr.Fork l region slot to) × (done.child ≡ Some (suc pc))
+    × (t.handles ≡ slice_set s.handles slot (Some child))
+OfSlot fetched s t done (act.Join l child) =
+    (pc : ℕ) × (slot : ℕ) × Read fetched pc (instr.Join l slot) × (done.core.pc ≡ suc pc) × (slice_get s.handles slot ≡ Some (Some child))
+OfSlot fetched s t done (act.JoinStep l child) =
+    (pc : ℕ) × (slot : ℕ) × Read fetched pc (instr.JoinStep l slot) × (done.core.pc ≡ suc pc) × (slice_get s.handles slot ≡ Some (Some child))
+OfSlot fetched s t done _ = Unit {0}
+
 -- no child more
 abbrev pub NoneMore : (old new : ThreadState) → Type 0
 NoneMore s t = (t.handles ≡ s.handles) × (t.forks ≡ s.forks)
@@ -120,5 +134,6 @@ pub record IsPrepared (w : Work) : Type 0 where
   pub under : (f : Code) → HoldsAll f w.fetched → run f most_local count 0 (core_of w.from) ≡ Some done
   pub act : done.doing ≡ doing_of (region_of w.child) w.act
   pub of_child : OfChild w.from w.act
+  pub slot : OfSlot w.fetched w.from w.next done w.act
   pub next : IsNext w.from done w.act w.next
   pub child : IsBorn w.from w.next done.child w.child

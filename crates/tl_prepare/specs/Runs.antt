@@ -8,7 +8,7 @@ use Rattle.tl_code.specs.declared.state.Fetched.{Fetched}
 use Rattle.tl_prepare.specs.declared.runner.Runner.{Runner}
 use Rattle.tl_prepare.specs.declared.step.Stepped.{Stepped}
 use Rattle.tl_prepare.specs.declared.execute.Executed.{Executed}
-use Rattle.tl_prepare.specs.Steps.{core_of_runner, after, Children, NamesChild}
+use Rattle.tl_prepare.specs.Steps.{core_of_runner, after, Children, NamesChild, InSlot}
 
 -- the instructions of placed ones
 abbrev pub code_at : List Placed → Code
@@ -18,6 +18,10 @@ code_at code = code_of (slice_get code)
 abbrev pub HoldsAll : Code → List Fetched → Type 0
 HoldsAll f [] = Unit {0}
 HoldsAll f (x ∷ xs) = (f x.pc ≡ Some x.instr) × HoldsAll f xs
+
+-- the instruction at this place was read
+abbrev pub Read : List Fetched → (pc : ℕ) → Instr → Type 0
+Read fetched pc i = (f : Code) → HoldsAll f fetched → f pc ≡ Some i
 
 -- one more instruction, unless it is there
 abbrev pub NotesMore : List Fetched → List Fetched → ℕ → Instr → Type 0
@@ -42,3 +46,4 @@ pub record Gives (limit : ℕ) (start : Runner) (e : Executed) : Type 0 where
   pub stepped : (jump go : Go) → after e.step jump go (core_of_runner e.run) ≡ Some done
   pub children : Children e.step start e.run
   pub child : NamesChild start.handles.items e.step
+  pub slot : InSlot (Read e.fetched.items) e.step start e.run
