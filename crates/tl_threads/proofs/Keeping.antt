@@ -169,7 +169,7 @@ module _ (f : Code) (few all : List (Option ℕ)) (n : ℕ) (fuller : (k j : ℕ
       forks = refl;
       children = λ q i j. set_more few all n fuller q k i j;
       lengths = λ q. length-set all k (Some n) ∙ sym q ∙ sym (length-set few k (Some n));
-      slots = inr (k, (pc, l, r, after, h, refl), refl, refl);
+      slots = inr (k, (pc, l, r, after, h, refl, refl), refl, refl);
       joined = λ l j e. absurd (cc);
     }),
   )
@@ -215,22 +215,22 @@ no_child d begin A n e = absurd (cc)
 same_begin : (d : Did) (a b : ℕ) → d.child ≡ Some a → d.child ≡ Some b → a ≡ b
 same_begin d a b x y = cc
 
-same_region : (d : Did) (l m : ℕ) (a b : Region) → d.doing ≡ forks l a → d.doing ≡ forks m b → a ≡ b
-same_region d l m a b x y = cc
-
 move_begins : (v h : ℕ) (f : Places) (depth : ℕ) (g : Region) (d : Did) (m : Move Inner) → Fulfils v h f depth g d m → Begun v h f depth d
-move_begins v h f depth g d (poke l p x i) t begin line r e q = no_child d begin _ t.0.1 e
-move_begins v h f depth g d (peek l p shown i) t begin line r e q = no_child d begin _ t.only.1 e
-move_begins v h f depth g d (expect l p x i) t begin line r e q = no_child d begin _ t.0.1 e
-move_begins v h f depth g d (fork l into k i) t begin line r e q =
-    subst (λ (b : ℕ). FitsCode v h f (suc depth) r (born h b d.core)) (same_begin d t.pc begin t.child e)
-    (subst (λ (r : Region). FitsCode v h f (suc depth) r (born h t.pc d.core)) (same_region d l line t.child_region r t.doing q)
-    (stands_fits v h f (suc depth) t.child_region (born h t.pc d.core) k t.newborn))
-move_begins v h f depth g d (join l k i) t begin line r e q = no_child d begin _ t.0.1 e
-move_begins v h f depth g d (arrive l x i) t begin line r e q = no_child d begin _ t.0.1 e
-move_begins v h f depth g d (joinstep l k i) t begin line r e q = no_child d begin _ t.0.1 e
-move_begins v h f depth g d (spend l) t begin line r e q = no_child d begin _ t.1 e
-move_begins v h f depth g d end t begin line r e q = no_child d begin _ t.1 e
+move_begins v h f depth g d (poke l p x i) t begin e = no_child d begin _ t.0.1 e
+move_begins v h f depth g d (peek l p shown i) t begin e = no_child d begin _ t.only.1 e
+move_begins v h f depth g d (expect l p x i) t begin e = no_child d begin _ t.0.1 e
+move_begins v h f depth g d (fork l into k i) t begin e = (
+  l,
+  t.child_region,
+  t.doing,
+  subst (λ (b : ℕ). FitsCode v h f (suc depth) t.child_region (born h b d.core)) (same_begin d t.pc begin t.child e)
+  (stands_fits v h f (suc depth) t.child_region (born h t.pc d.core) k t.newborn),
+)
+move_begins v h f depth g d (join l k i) t begin e = no_child d begin _ t.0.1 e
+move_begins v h f depth g d (arrive l x i) t begin e = no_child d begin _ t.0.1 e
+move_begins v h f depth g d (joinstep l k i) t begin e = no_child d begin _ t.0.1 e
+move_begins v h f depth g d (spend l) t begin e = no_child d begin _ t.1 e
+move_begins v h f depth g d end t begin e = no_child d begin _ t.1 e
 
 -- ---- what fits a place, and an act from there
 
@@ -264,7 +264,7 @@ module _ (v h : ℕ) (f : Places) (depth : ℕ) (g : Region) (s : Core) (x : Pla
         (λ z. inl (first_there x.handles s.handles k j (ap (λ hs. slice_get hs k) (sym z.0) ∙ r)))
         (λ z. ⊎_elim
         (λ y. inl (first_there x.handles s.handles k j y))
-        (λ y. inr (subst (λ (n : ℕ). ForkedInto (code_of f) e n) y (z.1.0, z.1.1, z.1.2, z.1.3, z.1.4, like.child ∙ z.1.5)))
+        (λ y. inr (subst (λ (n : ℕ). ForkedInto (code_of f) e n) y (z.1.0, z.1.1, z.1.2, z.1.3, z.1.4, like.child ∙ z.1.5, like.doing ∙ z.1.6)))
         (set_or few z.0 k j (Some s.forks) (ap (λ hs. slice_get hs k) (sym z.2) ∙ r)))
         like.slots
 
@@ -285,9 +285,13 @@ module _ (v h : ℕ) (f : Places) (depth : ℕ) (g : Region) (s : Core) (x : Pla
     }
 
     begun : Begun v h f depth d → Begun v h f depth e
-    begun b begin line r c q =
-        subst (λ (ls : List ℕ). FitsCode v h f (suc depth) r (record { pc = begin; locals = ls; handles = replicate h None; loops = []; forks = 0 })) (sym like.locals)
-        (b begin line r (sym like.child ∙ c) (sym like.doing ∙ q))
+    begun b begin c =
+        let r = b begin (sym like.child ∙ c) in (
+          r.0,
+          r.1,
+          like.doing ∙ r.2,
+          subst (λ (ls : List ℕ). FitsCode v h f (suc depth) r.1 (record { pc = begin; locals = ls; handles = replicate h None; loops = []; forks = 0 })) (sym like.locals) r.3,
+        )
 
 -- BEHIND AN ACT IT FITS AGAIN
 pub fits_behind : (v h : ℕ) (f : Places) (body : Body) → CodeOf v h f body → (depth : ℕ) (g : Region) (s : Core) (x : Placed) → s.pc < length (test_code body) → f s.pc ≡ Some x

@@ -14,6 +14,7 @@ use Rattle.tl_threads.specs.Fits.{FitsPlace, FitsCode, CodeOf}
 abbrev pub ForkedInto : Code → Did → (slot : ℕ) → Type 0
 ForkedInto f d slot =
     (pc : ℕ) × (line : ℕ) × (region : Region) × (after : ℕ) × (f pc ≡ Some (Fork line region slot after)) × (d.child ≡ Some (suc pc))
+    × (d.doing ≡ forks line region)
 
 -- the act is a join of the child in this slot: the thread stands at the place behind the join
 abbrev pub JoinedFrom : Code → Did → (slot : ℕ) → Type 0
@@ -28,11 +29,11 @@ pub record Behind (v h : ℕ) (f : Places) (depth : ℕ) (region : Region) (x : 
   pub known : (k : ℕ) → k < placed.handles → (k < x.handles) ⊎ ForkedInto (code_of f) d k
   pub joined : (line j : ℕ) → d.doing ≡ joins line j → (slot : ℕ) × JoinedFrom (code_of f) d slot × (slot < x.handles)
 
--- the child that begins fits
+-- a child that begins is that of a fork into its region, and fits
 abbrev pub Begun : (v h : ℕ) → Places → (depth : ℕ) → Did → Type 0
 Begun v h f depth d =
-    (begin line : ℕ) (region : Region) → d.child ≡ Some begin → d.doing ≡ forks line region
-    → FitsCode v h f (suc depth) region (born h begin d.core)
+    (begin : ℕ) → d.child ≡ Some begin
+    → (line : ℕ) × (region : Region) × (d.doing ≡ forks line region) × FitsCode v h f (suc depth) region (born h begin d.core)
 
 -- behind an act that was taken at a place of a test's code, it fits again
 abbrev pub ActsFit : Type 0
