@@ -7,3 +7,4 @@ pub mod Starting
 pub mod Moving
 pub mod Owning
 pub mod Holding
+pub mod Again

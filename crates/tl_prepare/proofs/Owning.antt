@@ -10,7 +10,7 @@ use Rattle.tl_prepare.specs.Given.{joined_by, newborn, next_child, OfChild, None
 use Rattle.tl_prepare.specs.Laws.{ChildrenStayOwn}
 
 -- a slot that was written has what it had or what was written
-set_or : (hs : List (Option (List ℕ))) (slot k : ℕ) (x : Option (List ℕ)) (child : List ℕ) → slice_get (slice_set hs slot x) k ≡ Some (Some child)
+pub set_or : (hs : List (Option (List ℕ))) (slot k : ℕ) (x : Option (List ℕ)) (child : List ℕ) → slice_get (slice_set hs slot x) k ≡ Some (Some child)
     → (slice_get hs k ≡ Some (Some child)) ⊎ (x ≡ Some child)
 set_or [] slot k x child e = absurd (cc)
 set_or (h ∷ hs) zero zero x child e = inr (let d : x ≡ Some child = cc in d)
@@ -19,10 +19,10 @@ set_or (h ∷ hs) (suc slot) zero x child e = inl e
 set_or (h ∷ hs) (suc slot) (suc k) x child e = set_or hs slot k x child e
 
 -- a child stays one
-stays_child : (s t : ThreadState) (child : List ℕ) → t.path ≡ s.path → s.forks ≤ t.forks → IsChild s child → IsChild t child
+pub stays_child : (s t : ThreadState) (child : List ℕ) → t.path ≡ s.path → s.forks ≤ t.forks → IsChild s child → IsChild t child
 stays_child s t child ep le c = (c.0, omega (arith, c.1), c.2 ∙ ap (λ p. p ++ c.0 ∷ []) (sym ep))
 
-more_forks : (s t : ThreadState) → ChildrenAfter s t → s.forks ≤ t.forks
+pub more_forks : (s t : ThreadState) → ChildrenAfter s t → s.forks ≤ t.forks
 more_forks s t c = ⊎_elim (λ n. omega (arith, n.1)) (λ o. omega (arith, o.2)) c
 
 next_owns : (s t : ThreadState) → t.path ≡ s.path → ChildrenAfter s t → OwnChildren s → OwnChildren t

@@ -110,7 +110,7 @@ module _ (f : Code) (few all : List (Option ℕ)) (n : ℕ) (fuller : (k j : ℕ
     record { doing = x; core = core_with all pc ls lo; child = None },
     refl,
     subst (λ (d : Did). Alike d (record { doing = x; core = core_with all pc ls lo; child = None })) (one_did _ d e)
-    (record { doing = refl; child = refl; pc = refl; locals = refl; loops = refl; forks = refl; children = λ q. fuller; lengths = λ q. sym q; slots = inl (refl, refl); joined = js }),
+        (record { doing = refl; child = refl; pc = refl; locals = refl; loops = refl; forks = refl; children = λ q. fuller; lengths = λ q. sym q; slots = inl (refl, refl); joined = js }),
   )
 
   plain : (x : Doing) (pc : ℕ) (ls lo : List ℕ) → NoJoin x → Both (did x (core_with few pc ls lo)) (did x (core_with all pc ls lo))
@@ -160,18 +160,18 @@ module _ (f : Code) (few all : List (Option ℕ)) (n : ℕ) (fuller : (k j : ℕ
     record { doing = forks l r; core = record { pc = after; locals = ls; handles = slice_set all k (Some n); loops = lo; forks = suc n }; child = Some (suc pc) },
     refl,
     subst (λ (d : Did). Alike d (record { doing = forks l r; core = record { pc = after; locals = ls; handles = slice_set all k (Some n); loops = lo; forks = suc n }; child = Some (suc pc) })) (one_did _ d e)
-    (record {
-      doing = refl;
-      child = refl;
-      pc = refl;
-      locals = refl;
-      loops = refl;
-      forks = refl;
-      children = λ q i j. set_more few all n fuller q k i j;
-      lengths = λ q. length-set all k (Some n) ∙ sym q ∙ sym (length-set few k (Some n));
-      slots = inr (k, (pc, l, r, after, h, refl, refl), refl, refl);
-      joined = λ l j e. absurd (cc);
-    }),
+        (record {
+          doing = refl;
+          child = refl;
+          pc = refl;
+          locals = refl;
+          loops = refl;
+          forks = refl;
+          children = λ q i j. set_more few all n fuller q k i j;
+          lengths = λ q. length-set all k (Some n) ∙ sym q ∙ sym (length-set few k (Some n));
+          slots = inr (k, (pc, l, r, after, h, refl, refl), refl, refl);
+          joined = λ l j e. absurd (cc);
+        }),
   )
   step_both full j g j' g' a b pc ls lo (Some (instr.Join l k)) h d e =
       child_both (joins l) k pc ls lo (slice_get few k) refl
@@ -224,7 +224,7 @@ move_begins v h f depth g d (fork l into k i) t begin e = (
   t.child_region,
   t.doing,
   subst (λ (b : ℕ). FitsCode v h f (suc depth) t.child_region (born h b d.core)) (same_begin d t.pc begin t.child e)
-  (stands_fits v h f (suc depth) t.child_region (born h t.pc d.core) k t.newborn),
+      (stands_fits v h f (suc depth) t.child_region (born h t.pc d.core) k t.newborn),
 )
 move_begins v h f depth g d (join l k i) t begin e = no_child d begin _ t.0.1 e
 move_begins v h f depth g d (arrive l x i) t begin e = no_child d begin _ t.0.1 e
@@ -258,17 +258,17 @@ module _ (v h : ℕ) (f : Places) (depth : ℕ) (g : Region) (s : Core) (x : Pla
   }
 
   module _ (d e : Did) (like : Alike (code_of f) few s.handles s.forks few_there d e) where
-    known_there : (k j : ℕ) → slice_get d.core.handles k ≡ Some (Some j) → (k < x.handles) ⊎ ForkedInto (code_of f) e k
+    known_there : (k j : ℕ) → slice_get d.core.handles k ≡ Some (Some j) → (k < x.handles) ⊎ (ForkedInto (code_of f) e k × (e.core.forks ≡ suc s.forks))
     known_there k j r =
         ⊎_elim
         (λ z. inl (first_there x.handles s.handles k j (ap (λ hs. slice_get hs k) (sym z.0) ∙ r)))
         (λ z. ⊎_elim
         (λ y. inl (first_there x.handles s.handles k j y))
-        (λ y. inr (subst (λ (n : ℕ). ForkedInto (code_of f) e n) y (z.1.0, z.1.1, z.1.2, z.1.3, z.1.4, like.child ∙ z.1.5, like.doing ∙ z.1.6)))
+        (λ y. inr (subst (λ (n : ℕ). ForkedInto (code_of f) e n) y (z.1.0, z.1.1, z.1.2, z.1.3, z.1.4, like.child ∙ z.1.5, like.doing ∙ z.1.6), like.forks ∙ z.3))
         (set_or few z.0 k j (Some s.forks) (ap (λ hs. slice_get hs k) (sym z.2) ∙ r)))
         like.slots
 
-    behind : FitsCode v h f depth g d.core → Behind v h f depth g x e
+    behind : FitsCode v h f depth g d.core → Behind v h f depth g s x e
     behind (y, here, t) = record {
       placed = y;
       here = ap f like.pc ∙ here;
@@ -295,13 +295,13 @@ module _ (v h : ℕ) (f : Places) (depth : ℕ) (g : Region) (s : Core) (x : Pla
 
 -- BEHIND AN ACT IT FITS AGAIN
 pub fits_behind : (v h : ℕ) (f : Places) (body : Body) → CodeOf v h f body → (depth : ℕ) (g : Region) (s : Core) (x : Placed) → s.pc < length (test_code body) → f s.pc ≡ Some x
-    → FitsPlace v h x depth g s → (limit n : ℕ) (d : Did) → run (code_of f) limit n 0 s ≡ Some d → (stays d.doing ≡ false → Behind v h f depth g x d) × Begun v h f depth d
+    → FitsPlace v h x depth g s → (limit n : ℕ) (d : Did) → run (code_of f) limit n 0 s ≡ Some d → (stays d.doing ≡ false → Behind v h f depth g s x d) × Begun v h f depth d
 fits_behind v h f body code depth g s x lt here fit limit n d ran =
     let i = fits_stands v h f body code depth g (less v h f depth g s x fit) lt (x, here, less_fits v h f depth g s x fit) in
     let r = refines v h f limit depth g (less v h f depth g s x fit) i.0 i.1 in
     let b = run_both (code_of f) (few v h f depth g s x fit) s.handles s.forks (few_there v h f depth g s x fit) limit r.count 0 s.pc s.locals s.loops r.done r.ran in
     let same : b.0 ≡ d = one_action (code_of f) limit r.count n 0 s b.0 d b.1 ran in
-    subst (λ (d : Did). (stays d.doing ≡ false → Behind v h f depth g x d) × Begun v h f depth d) same (
+    subst (λ (d : Did). (stays d.doing ≡ false → Behind v h f depth g s x d) × Begun v h f depth d) same (
       λ no. behind v h f depth g s x fit r.done b.0 b.2 (move_fits v h f depth g r.done (next limit i.0) r.fulfils (ap stays (sym b.2.doing) ∙ no)),
       begun v h f depth g s x fit r.done b.0 b.2 (move_begins v h f depth g r.done (next limit i.0) r.fulfils),
     )

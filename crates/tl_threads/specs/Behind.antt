@@ -22,11 +22,11 @@ JoinedFrom f d slot = (pc : ℕ) × (line : ℕ) × (f pc ≡ Some (Join line sl
 
 -- Where the thread stands behind an act that it took at x: it fits there, each handle that is known there was known at x or is the one just
 -- forked, and a child that was joined is one of a handle that was known at x.
-pub record Behind (v h : ℕ) (f : Places) (depth : ℕ) (region : Region) (x : Placed) (d : Did) : Type 0 where
+pub record Behind (v h : ℕ) (f : Places) (depth : ℕ) (region : Region) (from : Core) (x : Placed) (d : Did) : Type 0 where
   pub placed : Placed
   pub here : f d.core.pc ≡ Some placed
   pub fits : FitsPlace v h placed depth region d.core
-  pub known : (k : ℕ) → k < placed.handles → (k < x.handles) ⊎ ForkedInto (code_of f) d k
+  pub known : (k : ℕ) → k < placed.handles → (k < x.handles) ⊎ (ForkedInto (code_of f) d k × (d.core.forks ≡ suc from.forks))
   pub joined : (line j : ℕ) → d.doing ≡ joins line j → (slot : ℕ) × JoinedFrom (code_of f) d slot × (slot < x.handles)
 
 -- a child that begins is that of a fork into its region, and fits
@@ -40,4 +40,4 @@ abbrev pub ActsFit : Type 0
 ActsFit = (v h : ℕ) (f : Places) (body : Body) → CodeOf v h f body → (depth : ℕ) (region : Region) (s : Core) (x : Placed)
     → s.pc < length (test_code body) → f s.pc ≡ Some x → FitsPlace v h x depth region s
     → (limit n : ℕ) (d : Did) → run (code_of f) limit n 0 s ≡ Some d
-    → (stays d.doing ≡ false → Behind v h f depth region x d) × Begun v h f depth d
+    → (stays d.doing ≡ false → Behind v h f depth region s x d) × Begun v h f depth d
