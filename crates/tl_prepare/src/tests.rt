@@ -201,11 +201,11 @@ fn statements_act(rt: HostRuntime) -> Result<(), Fail> {
 #[test]
 fn children_begin(rt: HostRuntime) -> Result<(), Fail> {
     let text = b"let v = 5; fork w { poke a = v; set v = 6; poke a = v; } poke a = v + 2;
-fork u { fork x { poke a = 9; } join x; } join u; joinstep w;";
+fork u { fork x { } join x; } join u; joinstep w;";
     let told = told(rt.alloc(), text).ok_or("refused")?;
     assert_eq!(rt;
         told.as_slice(),
-        b"/: fork /0 poke 7 fork /1 join /1 joinstep /0 end\n/0: poke 5 poke 6 end\n/1: fork /1/0 join /1/0 end\n/1/0: poke 9 end\n".as_slice()
+        b"/: fork /0 poke 7 fork /1 join /1 joinstep /0 end\n/0: poke 5 poke 6 end\n/1: fork /1/0 join /1/0 end\n/1/0: end\n".as_slice()
     );
     Ok(())
 }
