@@ -76,6 +76,7 @@ act_given s a e es ran =
     record {
       count = g.count;
       done = g.done;
+      once = ran.once;
       under = λ f h. ap (λ c. run f most_local g.count 0 c) (sym ran.core) ∙ g.under f h;
       act = ap (λ d. d.doing) d;
       of_child = child_of_act a s ran.start.handles.items ran.handles (subst (λ (q : Stepped). NamesChild ran.start.handles.items q) es g.child);
@@ -107,6 +108,7 @@ fork_given s l begin g child e es ran =
     record {
       count = v.count;
       done = v.done;
+      once = ran.once;
       under = λ f h. ap (λ c. run f most_local v.count 0 c) (sym ran.core) ∙ v.under f h;
       act = ap (λ d. d.doing) d;
       of_child = c;

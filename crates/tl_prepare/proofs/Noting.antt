@@ -1,12 +1,14 @@
 -- Instructions that were read.
-use Rattle.std.proofs.Common.{◌≡◌, ◌↔◌, ℕ, zero, suc, List, [], ◌∷◌, ◌++◌, length, Bool, true, false, cond, ◌||◌, nat_eq, Option, Some, None, slice_get, refl, sym, ap, subst, ◌∙◌}
-use Rattle.std.specs.List.{list_any}
+use Rattle.std.proofs.Common.{◌≡◌, ℕ, zero, suc, List, [], ◌∷◌, ◌++◌, Bool, true, false, cond, ◌||◌, nat_eq, Option, Some, slice_get, refl, sym, ap, subst, ◌∙◌}
+use Rattle.std.specs.List.{list_any, IsDistinct}
 use Rattle.std.proofs.lemmas.Bool.{eqb-true}
+use Rattle.std.proofs.lemmas.Bool.Decides.{Decides-eqb}
+use Rattle.std.proofs.lemmas.Map.Made.{AllPairs-from_IsDistinct}
 use Rattle.indexmap.specs.IndexSet.{insert_key}
 use Rattle.tl_threads.specs.declared.code.Instr.{Instr}
 use Rattle.tl_threads.specs.Machine.{Code}
 use Rattle.tl_code.specs.declared.state.Fetched.{Fetched}
-use Rattle.tl_prepare.specs.Listed.{Entry, Listed}
+use Rattle.tl_prepare.specs.Listed.{places_of, Once}
 use Rattle.tl_prepare.specs.Runs.{HoldsAll, NotesMore, CanNote}
 
 held_at : (f : Code) (xs : List Fetched) (k : ℕ) (e : Fetched) → slice_get xs k ≡ Some e → HoldsAll f xs → f e.pc ≡ Some e.instr
@@ -25,6 +27,10 @@ push_held f (x ∷ xs) e h i = (h.0, push_held f xs e h.1 i)
 one_instr : (i j : Instr) → ◌≡◌ {A = Option Instr} (Some i) (Some j) → i ≡ j
 one_instr i j e = cc
 
+-- an instruction that was read at the place
+abbrev pub Entry : ℕ → List Fetched → Type 0
+Entry pc xs = (k : ℕ) × (e : Fetched) × (slice_get xs k ≡ Some e) × (e.pc ≡ pc)
+
 -- it was noted before
 pub notes_there : (xs : List Fetched) (pc : ℕ) (i : Instr) → Entry pc xs → CanNote xs pc i → NotesMore xs xs pc i
 notes_there xs pc i (k, e, s, p) (g, h, j) f =
@@ -39,40 +45,28 @@ notes_push xs ys pc i j e d f = (
 
 -- places that are looked up
 
-pub found : (pc : ℕ) (ps : List ℕ) (xs : List Fetched) → list_any (λ p. nat_eq pc p) ps ≡ true → Listed ps xs → Entry pc xs
-found pc [] xs e l = absurd (cc)
-found pc (p ∷ ps) xs e l = by (nat_eq pc p) refl e (λ d. found pc ps xs d l.1)
+pub found : (pc : ℕ) (xs : List Fetched) → list_any (nat_eq pc) (places_of xs) ≡ true → Entry pc xs
+found pc [] e = absurd (cc)
+found pc (x ∷ xs) e = by (nat_eq pc x.pc) refl e (λ d. found pc xs d)
   where
-    by : (b : Bool) → nat_eq pc p ≡ b → b || list_any (λ p. nat_eq pc p) ps ≡ true → (list_any (λ p. nat_eq pc p) ps ≡ true → Entry pc xs) → Entry pc xs
-    by true t e r = (l.0.0, l.0.1, l.0.2, l.0.3 ∙ sym (eqb-true pc p t))
-    by false t e r = r e
+    by : (b : Bool) → nat_eq pc x.pc ≡ b → b || list_any (nat_eq pc) (places_of xs) ≡ true → (list_any (nat_eq pc) (places_of xs) ≡ true → Entry pc xs) → Entry pc (x ∷ xs)
+    by true t e r = (0, x, refl, sym (eqb-true pc x.pc t))
+    by false t e r = let (k, y, s, p) = r e in (suc k, y, s, p)
 
-get_longer : (xs : List Fetched) (e : Fetched) (k : ℕ) (x : Fetched) → slice_get xs k ≡ Some x → slice_get (xs ++ e ∷ []) k ≡ Some x
-get_longer [] e k x s = absurd (cc)
-get_longer (y ∷ ys) e zero x s = s
-get_longer (y ∷ ys) e (suc k) x s = get_longer ys e k x s
+-- one more, at a place that isn't kept yet
 
-get_last : (xs : List Fetched) (e : Fetched) → slice_get (xs ++ e ∷ []) (length xs) ≡ Some e
-get_last [] e = refl
-get_last (x ∷ xs) e = get_last xs e
+places_push : (xs : List Fetched) (e : Fetched) → places_of (xs ++ e ∷ []) ≡ places_of xs ++ e.pc ∷ []
+places_push [] e = refl
+places_push (x ∷ xs) e = ap (λ ps. x.pc ∷ ps) (places_push xs e)
 
-listed_longer : (ps : List ℕ) (xs : List Fetched) (e : Fetched) → Listed ps xs → Listed ps (xs ++ e ∷ [])
-listed_longer [] xs e l = tt
-listed_longer (p ∷ ps) xs e l = ((l.0.0, l.0.1, get_longer xs e l.0.0 l.0.1 l.0.2, l.0.3), listed_longer ps xs e l.1)
+key_pushed : (b : Bool) (ps : List ℕ) (pc : ℕ) → b ≡ false → cond b ps (ps ++ pc ∷ []) ≡ ps ++ pc ∷ []
+key_pushed true ps pc e = absurd (cc)
+key_pushed false ps pc e = refl
 
-listed_push : (ps : List ℕ) (xs : List Fetched) (p : ℕ) → Listed ps xs → Entry p xs → Listed (ps ++ p ∷ []) xs
-listed_push [] xs p l e = (e, tt)
-listed_push (q ∷ qs) xs p l e = (l.0, listed_push qs xs p l.1 e)
+pub places_more : (ps qs : List ℕ) (xs ys : List Fetched) (e : Fetched) → ys ≡ xs ++ e ∷ [] → ps ≡ places_of xs → list_any (nat_eq e.pc) ps ≡ false → qs ≡ insert_key nat_eq ps e.pc → qs ≡ places_of ys
+places_more ps qs xs ys e i p f k =
+    k ∙ key_pushed (list_any (nat_eq e.pc) ps) ps e.pc f ∙ ap (λ ps. ps ++ e.pc ∷ []) p ∙ sym (places_push xs e) ∙ ap places_of (sym i)
 
--- one more instruction, whose place isn't kept yet
-pub listed_more : (ps : List ℕ) (xs ys : List Fetched) (e : Fetched) → ys ≡ xs ++ e ∷ [] → Listed ps xs → Listed ps ys
-listed_more ps xs ys e i l = subst (λ (zs : List Fetched). Listed ps zs) (sym i) (listed_longer ps xs e l)
-
--- and with its place
-pub listed_both : (ps qs : List ℕ) (xs ys : List Fetched) (e : Fetched) → ys ≡ xs ++ e ∷ [] → qs ≡ insert_key nat_eq ps e.pc → Listed ps xs → Listed qs ys
-listed_both ps qs xs ys e i k l =
-    subst (λ (zs : List Fetched). Listed qs zs) (sym i) (subst (λ (rs : List ℕ). Listed rs (xs ++ e ∷ [])) (sym k) (by (list_any (nat_eq e.pc) ps)))
-  where
-    by : (b : Bool) → Listed (cond b ps (ps ++ e.pc ∷ [])) (xs ++ e ∷ [])
-    by true = listed_longer ps xs e l
-    by false = listed_push ps (xs ++ e ∷ []) e.pc (listed_longer ps xs e l) (length xs, e, get_last xs e, refl)
+-- places that are kept in a set are each kept once
+pub once_kept : (ps : List ℕ) (xs : List Fetched) → ps ≡ places_of xs → IsDistinct nat_eq ps → Once xs
+once_kept ps xs p d = AllPairs-from_IsDistinct Decides-eqb (places_of xs) (subst (λ (ps : List ℕ). IsDistinct nat_eq ps) p d)

@@ -11,6 +11,7 @@ use Rattle.tl_prepare.specs.declared.act.Act.{Act}
 use Rattle.tl_prepare.specs.declared.act.Act.TheVariants as act
 use Rattle.tl_prepare.specs.declared.runner.Runner.{Runner}
 use Rattle.tl_prepare.specs.Steps.{core_of_runner, doing_of, Named}
+use Rattle.tl_prepare.specs.Listed.{Once}
 use Rattle.tl_prepare.specs.Runs.{HoldsAll, Read, Gives}
 use Rattle.tl_prepare.specs.Work.{Work}
 use Rattle.tl_prepare.specs.declared.execute.Executed.{Executed}
@@ -128,11 +129,13 @@ pub record Ran (s : ThreadState) (e : Executed) : Type 0 where
   pub handles : start.handles.items ≡ s.handles
   pub forks : start.forks ≡ s.forks
   pub gives : Gives most_local start e
+  pub once : Once e.fetched.items
 
--- WHAT IS PREPARED is what the machine gives under each code that has the instructions that were read.
+-- WHAT IS PREPARED is what the machine gives under each code that has the instructions that were read, each of which is listed once.
 pub record IsPrepared (w : Work) : Type 0 where
   pub count : ℕ
   pub done : Did
+  pub once : Once w.fetched
   pub under : (f : Code) → HoldsAll f w.fetched → run f most_local count 0 (core_of w.from) ≡ Some done
   pub act : done.doing ≡ doing_of (region_of w.child) w.act
   pub of_child : OfChild w.from w.act

@@ -1,12 +1,11 @@
 -- Places of instructions that were read.
-use Rattle.std.specs.Prelude.{◌≡◌, ℕ, List, [], ◌∷◌, Some, slice_get}
+use Rattle.std.specs.Prelude.{◌≢◌, ℕ, List, map, AllPairs}
 use Rattle.tl_code.specs.declared.state.Fetched.{Fetched}
 
--- an instruction that was read at the place
-abbrev pub Entry : ℕ → List Fetched → Type 0
-Entry pc fetched = (k : ℕ) × (e : Fetched) × (slice_get fetched k ≡ Some e) × (e.pc ≡ pc)
+-- the places at which they were read
+abbrev pub places_of : List Fetched → List ℕ
+places_of fetched = map (λ f. f.pc) fetched
 
--- each place is that of one
-abbrev pub Listed : List ℕ → List Fetched → Type 0
-Listed [] fetched = Unit {0}
-Listed (p ∷ ps) fetched = Entry p fetched × Listed ps fetched
+-- EACH ONCE: no two of them were read at one place
+abbrev pub Once : List Fetched → Type 0
+Once fetched = AllPairs (λ p q. p ≢ q) (places_of fetched)

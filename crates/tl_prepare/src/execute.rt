@@ -2,6 +2,7 @@
 ghost use Rattle.std.specs.Prelude.{◌≡◌, ◌<◌, ◌≤◌, length, slice_get, IfOk};
 ghost use Rattle.std.specs.Option.{option_copied};
 ghost use Rattle.tl_prepare.specs.Steps.{core_of_runner};
+ghost use Rattle.tl_prepare.specs.Listed.{Once};
 ghost use Rattle.tl_prepare.specs.Runs.{code_at, HoldsAll, Works, Gives};
 
 use crate::notes::Notes;
@@ -41,6 +42,7 @@ pub fn execute(
     requires few { length code.now ≤ 4294967295 }
     ensures gives { IfOk result (λ e. Gives limit start e) }
     ensures fetched { IfOk result (λ e. HoldsAll (code_at code.now) e.fetched.items) }
+    ensures once { IfOk result (λ e. Once e.fetched.items) }
 {
     let mut run = start;
     let mut used = 0u32;

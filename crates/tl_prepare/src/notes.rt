@@ -1,5 +1,6 @@
 //! Instructions that were read.
 ghost use Rattle.std.specs.Prelude.{◌≡◌, [], OnOk};
+ghost use Rattle.tl_prepare.specs.Listed.{Once};
 ghost use Rattle.tl_prepare.specs.Runs.{NotesMore, CanNote};
 
 use indexmap::IndexSet;
@@ -18,15 +19,15 @@ pub struct Notes {
 }
 
 impl Model for Notes {
-    ghost use Rattle.std.specs.Prelude.{List};
+    ghost use Rattle.std.specs.Prelude.{◌≡◌, List};
     ghost use Rattle.tl_code.specs.declared.state.Fetched.{Fetched};
-    ghost use Rattle.tl_prepare.specs.Listed.{Listed};
+    ghost use Rattle.tl_prepare.specs.Listed.{places_of, Once};
 
     ghost Value = { List Fetched };
 
     ghost view = { λ n. n.fetched.items };
 
-    ghost invariant = { λ n. Listed n.places.keys n.fetched.items };
+    ghost invariant = { λ n. (n.places.keys ≡ places_of n.fetched.items) × Once n.fetched.items };
 }
 
 impl Notes {
@@ -49,14 +50,16 @@ impl Notes {
             return Ok(());
         }
         let instr = instr.copy()?;
-        self.fetched.push(Fetched { pc, instr })?;
+        self.fetched.reserve(1)?;
         self.places.insert(pc)?;
+        self.fetched.push_reserved(Fetched { pc, instr });
         Ok(())
     }
 
     /// Their list. Takes no memory.
     pub fn into_fetched(self) -> Vec<Fetched>
-        ensures { result.items ≡ self }
+        ensures is { result.items ≡ self }
+        ensures once { Once result.items }
     {
         let Notes { places: _, fetched } = self;
         fetched

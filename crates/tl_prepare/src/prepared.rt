@@ -3,6 +3,7 @@ ghost use Rattle.std.specs.Prelude.{◌≡◌, ◌<◌, ◌++◌, ◌∷◌, [],
 ghost use Rattle.std.specs.Option.{option_copied};
 ghost use Rattle.tl_code.specs.Codes.{Fits, Holds};
 ghost use Rattle.tl_prepare.specs.Steps.{core_of_runner};
+ghost use Rattle.tl_prepare.specs.Listed.{Once};
 ghost use Rattle.tl_prepare.specs.Given as given;
 ghost use Rattle.tl_prepare.specs.Given.{IsPrepared, Ran, joined_by, ends, moved, stayed, newborn};
 
@@ -182,6 +183,7 @@ pub fn prepare(alloc: Global, code: &Code, thread: &ThreadState) -> Result<Prepa
     requires { Fits code.now thread.now }
     ensures from { IfOk result (λ p. p.from ≡ thread.now) }
     ensures fetched { IfOk result (λ p. Holds code.now p.fetched) }
+    ensures once { IfOk result (λ p. Once p.fetched) }
     ensures gives { IfOk result (λ p. IsPrepared p) }
 {
     a_fitting_state_stands();
@@ -222,7 +224,7 @@ impl Prepared {
         self.child.as_ref()
     }
 
-    /// The instructions that were read, each with its place.
+    /// The instructions that were read, each once and with its place, in the order in which they were read first.
     pub fn fetched(&self) -> &[Fetched]
         ensures { result.now ≡ self.now.fetched }
     {

@@ -33,17 +33,17 @@ pub steps-preserved : goal.steps-preserved
 steps-preserved c = reaches_went c.args.limit c.args.code.now c.args.start c.steps.used c.steps.run c.step.new.run c.steps.notes c.note.new.self c.in-Some.placed.now.instr c.in_ok-step.field-0 c.steps.invariant (placed_is c.args.code.now c.steps.run.pc c.in-Some.placed.now c.in-Some.ensures) c.in_ok-note.ensures c.in_ok-step.ensures c.in-Went.is
 
 pub returns-in-Acts-clause-gives : goal.returns-in-Acts-clause-gives
-returns-in-Acts-clause-gives c = gives_act c.args.limit c.args.code.now c.args.start c.steps.used c.steps.run c.step.new.run c.steps.notes c.note.new.self c.in-Some.placed.now.instr c.in_ok-step.field-0 c.steps.invariant (placed_is c.args.code.now c.steps.run.pc c.in-Some.placed.now c.in-Some.ensures) c.in_ok-note.ensures c.in_ok-step.ensures c.in-Acts.act _ c.in-Acts.is refl refl c.into_fetched.ensures
+returns-in-Acts-clause-gives c = gives_act c.args.limit c.args.code.now c.args.start c.steps.used c.steps.run c.step.new.run c.steps.notes c.note.new.self c.in-Some.placed.now.instr c.in_ok-step.field-0 c.steps.invariant (placed_is c.args.code.now c.steps.run.pc c.in-Some.placed.now c.in-Some.ensures) c.in_ok-note.ensures c.in_ok-step.ensures c.in-Acts.act _ c.in-Acts.is refl refl c.into_fetched.ensures.is
 
 pub returns-in-Acts-clause-fetched : goal.returns-in-Acts-clause-fetched
-returns-in-Acts-clause-fetched c = rw c.into_fetched.ensures (noted c.args.limit c.args.code.now c.args.start c.steps.used c.steps.run c.step.new.run c.steps.notes c.note.new.self c.in-Some.placed.now.instr c.in_ok-step.field-0 c.steps.invariant (placed_is c.args.code.now c.steps.run.pc c.in-Some.placed.now c.in-Some.ensures) c.in_ok-note.ensures c.in_ok-step.ensures)
+returns-in-Acts-clause-fetched c = rw c.into_fetched.ensures.is (noted c.args.limit c.args.code.now c.args.start c.steps.used c.steps.run c.step.new.run c.steps.notes c.note.new.self c.in-Some.placed.now.instr c.in_ok-step.field-0 c.steps.invariant (placed_is c.args.code.now c.steps.run.pc c.in-Some.placed.now c.in-Some.ensures) c.in_ok-note.ensures c.in_ok-step.ensures)
 
 pub returns-in-Forks-clause-gives : goal.returns-in-Forks-clause-gives
 returns-in-Forks-clause-gives c =
-    gives_fork c.args.limit c.args.code.now c.args.start c.steps.used c.steps.run c.step.new.run c.steps.notes c.note.new.self c.in-Some.placed.now.instr c.in_ok-step.field-0 c.steps.invariant (placed_is c.args.code.now c.steps.run.pc c.in-Some.placed.now c.in-Some.ensures) c.in_ok-note.ensures c.in_ok-step.ensures c.in-Forks.line c.in-Forks.begin c.in-Forks.region c.in-Forks.child _ c.in-Forks.is refl refl c.into_fetched-in-Forks.ensures
+    gives_fork c.args.limit c.args.code.now c.args.start c.steps.used c.steps.run c.step.new.run c.steps.notes c.note.new.self c.in-Some.placed.now.instr c.in_ok-step.field-0 c.steps.invariant (placed_is c.args.code.now c.steps.run.pc c.in-Some.placed.now c.in-Some.ensures) c.in_ok-note.ensures c.in_ok-step.ensures c.in-Forks.line c.in-Forks.begin c.in-Forks.region c.in-Forks.child _ c.in-Forks.is refl refl c.into_fetched-in-Forks.ensures.is
 
 pub returns-in-Forks-clause-fetched : goal.returns-in-Forks-clause-fetched
-returns-in-Forks-clause-fetched c = rw c.into_fetched-in-Forks.ensures (noted c.args.limit c.args.code.now c.args.start c.steps.used c.steps.run c.step.new.run c.steps.notes c.note.new.self c.in-Some.placed.now.instr c.in_ok-step.field-0 c.steps.invariant (placed_is c.args.code.now c.steps.run.pc c.in-Some.placed.now c.in-Some.ensures) c.in_ok-note.ensures c.in_ok-step.ensures)
+returns-in-Forks-clause-fetched c = rw c.into_fetched-in-Forks.ensures.is (noted c.args.limit c.args.code.now c.args.start c.steps.used c.steps.run c.step.new.run c.steps.notes c.note.new.self c.in-Some.placed.now.instr c.in_ok-step.field-0 c.steps.invariant (placed_is c.args.code.now c.steps.run.pc c.in-Some.placed.now c.in-Some.ensures) c.in_ok-note.ensures c.in_ok-step.ensures)
 
 pub unreachable-requires-in-Stuck : goal.unreachable-requires-in-Stuck
 unreachable-requires-in-Stuck c = never_stuck c.args.limit c.args.code.now c.args.start c.steps.used c.steps.run c.step.new.run c.steps.notes c.note.new.self c.in-Some.placed.now.instr c.in_ok-step.field-0 c.steps.invariant (placed_is c.args.code.now c.steps.run.pc c.in-Some.placed.now c.in-Some.ensures) c.in_ok-note.ensures c.in_ok-step.ensures c.in-Stuck.is
