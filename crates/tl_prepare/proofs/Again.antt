@@ -1,30 +1,29 @@
 -- What is prepared fits again.
-use Rattle.std.proofs.Common.{◌≡◌, ◌⊎◌, ℕ, zero, suc, ◌+◌, ◌<◌, ◌≤◌, List, [], ◌∷◌, ◌++◌, length, length-append, map, reverse, Bool, true, false, cond, Option, Some, None, option_map, refl, sym, ap, subst, ◌∙◌, ⊎_elim, arith, slice_get, slice_set}
+use Rattle.std.proofs.Common.{◌≡◌, ℕ, zero, suc, ◌+◌, ◌<◌, ◌≤◌, List, [], ◌∷◌, ◌++◌, length, length-append, Bool, true, false, cond, Option, Some, None, option_map, refl, sym, ap, subst, ◌∙◌, ⊎_elim, arith, slice_get, slice_set}
 use Rattle.std.specs.Prelude.{replicate}
 use Rattle.std.proofs.lemmas.List.{length-map, length-reverse, length-replicate}
 use Rattle.std.proofs.lemmas.Option.{slice_get-map}
 use Rattle.tb_base.specs.declared.path.Region.{Region}
 use Rattle.tl_threads.specs.declared.code.Placed.{Placed}
-use Rattle.tl_threads.specs.declared.code.Instr.{Instr}
 use Rattle.tl_threads.specs.declared.code.Instr.TheVariants as instr
-use Rattle.tl_threads.specs.Machine.{Core, Did, Code, core_after, stays}
-use Rattle.tl_threads.specs.Machine.Doing.{forks, joins}
+use Rattle.tl_threads.specs.Machine.{Core, Did, Code, stays}
+use Rattle.tl_threads.specs.Machine.Doing.{forks}
 use Rattle.tl_threads.specs.Fits.{FitsCode}
 use Rattle.tl_threads.specs.Stands.{born}
-use Rattle.tl_threads.specs.Behind.{ForkedInto, JoinedFrom, Behind, Begun, ActsFit}
+use Rattle.tl_threads.specs.Behind.{Behind, Begun, ActsFit}
 use Rattle.tl_code.specs.declared.state.ThreadState.{ThreadState}
 use Rattle.tl_code.specs.Compiled.{Compiled}
-use Rattle.tl_code.specs.Codes.{IsCode, IsChild, IsJoined, NamesChild, FitsAt, Fits, Holds, body_of_code, places, child_number, core_of}
+use Rattle.tl_code.specs.Codes.{IsChild, IsJoined, NamesChild, FitsAt, body_of_code, places, child_number, core_of}
 use Rattle.tl_code.specs.Laws.{PlacesStand}
 use Rattle.tl_code.proofs.First.{some_within}
 use Rattle.tl_code.proofs.Standing.{fits_place}
 use Rattle.tl_prepare.specs.declared.act.Act.{Act}
 use Rattle.tl_prepare.specs.declared.act.Act.TheVariants as act
-use Rattle.tl_prepare.specs.Runs.{code_at, HoldsAll, Read}
+use Rattle.tl_prepare.specs.Runs.{code_at, HoldsAll}
 use Rattle.tl_prepare.specs.Steps.{doing_of}
 use Rattle.tl_prepare.specs.Work.{Work}
-use Rattle.tl_prepare.specs.Given.{most_local, joined_by, newborn, next_child, region_of, OfChild, OfSlot, ChildrenAfter, IsNext, IsBorn, IsPrepared}
-use Rattle.tl_prepare.specs.Laws.{InPlace, FitsButCounts, PreparedFits, FitsWithinBounds}
+use Rattle.tl_prepare.specs.Given.{most_local, joined_by, newborn, next_child, region_of, OfChild, OfSlot, IsBorn, IsPrepared}
+use Rattle.tl_prepare.specs.Laws.{FitsButCounts, PreparedFits, FitsWithinBounds}
 use Rattle.tl_prepare.proofs.Holding.{held_all}
 use Rattle.tl_prepare.proofs.Owning.{set_or, stays_child, more_forks}
 

@@ -17,7 +17,7 @@ use Rattle.tl_prepare.specs.declared.runner.Runner.{Runner}
 use Rattle.tl_prepare.specs.declared.execute.Executed.{Executed}
 use Rattle.tl_prepare.specs.declared.step.Stepped.{Stepped}
 use Rattle.tl_prepare.specs.declared.step.Stepped.TheVariants.{Jumped, Went, Acts, Forks, Stuck}
-use Rattle.tl_prepare.specs.Steps.{core_of_runner, doing_of, after, Same, OneMore, Children, NamesChild, InSlot, Only, IsStep, IsFork}
+use Rattle.tl_prepare.specs.Steps.{core_of_runner, doing_of, after, Same, OneMore, Children, NamesChild, InSlot, IsAt, IsStep, IsFork}
 use Rattle.tl_prepare.specs.Runs.{code_at, HoldsAll, Read, NotesMore, CanNote, Works, Gives}
 
 -- what the loop keeps
@@ -168,13 +168,13 @@ module _ (limit : ℕ) (code : List Placed) (start : Runner) (used : ℕ) (at at
   act_child : (q : Stepped) → r ≡ q → NamesChild start.handles.items q
   act_child q e = subst (λ (q : Stepped). NamesChild start.handles.items q) e (subst (λ (hs : List (Option (List ℕ))). NamesChild hs r) w.children.handles st.child)
 
-  read_here : (q : ℕ) (j : Instr) → Only at.pc x q j → Read new q j
+  read_here : (q : ℕ) (j : Instr) → IsAt at.pc x q j → Read new q j
   read_here q j o f h = ap f o.0 ∙ ((notes f).0 h).1 ∙ ap Some (sym o.1)
 
   slot_there : (slot : ℕ) (child : List ℕ) → slice_get at.handles.items slot ≡ Some (Some child) → slice_get start.handles.items slot ≡ Some (Some child)
   slot_there slot child e = ap (λ hs. slice_get hs slot) (sym w.children.handles) ∙ e
 
-  in_start : (q : Stepped) → InSlot (Only at.pc x) q at at' → InSlot (Read new) q start at'
+  in_start : (q : Stepped) → InSlot (IsAt at.pc x) q at at' → InSlot (Read new) q start at'
   in_start (Forks l g begin child) (pc, slot, to, o, b, hs) = (pc, slot, to, read_here pc (instr.Fork l g slot to) o, b, hs ∙ ap (λ hs. slice_set hs slot (Some child)) w.children.handles)
   in_start (Acts (act.Join l child)) (pc, slot, o, b, e) = (pc, slot, read_here pc (instr.Join l slot) o, b, slot_there slot child e)
   in_start (Acts (act.JoinStep l child)) (pc, slot, o, b, e) = (pc, slot, read_here pc (instr.JoinStep l slot) o, b, slot_there slot child e)
@@ -194,7 +194,7 @@ module _ (limit : ℕ) (code : List Placed) (start : Runner) (used : ℕ) (at at
       subst (λ (l : List Fetched). InSlot (Read l) e.step start e.run) (sym ef)
       (subst (λ (v : Runner). InSlot (Read new) e.step start v) (sym er)
       (subst (λ (p : Stepped). InSlot (Read new) p start at') (sym es)
-      (in_start q (subst (λ (p : Stepped). InSlot (Only at.pc x) p at at') ea st.slot))))
+      (in_start q (subst (λ (p : Stepped). InSlot (IsAt at.pc x) p at at') ea st.slot))))
 
   pub gives_act : (a : Act) (e : Executed) → r ≡ Acts a → e.run ≡ at' → e.step ≡ Acts a → e.fetched.items ≡ new → Gives limit start e
   gives_act a e ea er es ef =

@@ -74,16 +74,18 @@ OfChild s (act.Join l child) = Named s.handles child
 OfChild s (act.JoinStep l child) = Named s.handles child
 OfChild s _ = Unit {0}
 
--- The slot of a fork or a join is that of an instruction which was read at its place: the child of a fork goes into the slot and begins at the
--- place behind, and the child of a join is the one in the slot.
+-- The slot of a fork or a join is that of an instruction which was read at its place: the child of a fork goes into the slot and begins at
+-- the place behind, and the child of a join is the one in the slot.
 abbrev pub OfSlot : (fetched : List Fetched) → (old new : ThreadState) → Did → Act → Type 0
 OfSlot fetched s t done (act.Fork l child) =
     (pc : ℕ) × (slot : ℕ) × (region : Region) × (to : ℕ) × Read fetched pc (instr.Fork l region slot to) × (done.child ≡ Some (suc pc))
     × (t.handles ≡ slice_set s.handles slot (Some child))
 OfSlot fetched s t done (act.Join l child) =
-    (pc : ℕ) × (slot : ℕ) × Read fetched pc (instr.Join l slot) × (done.core.pc ≡ suc pc) × (slice_get s.handles slot ≡ Some (Some child))
+    (pc : ℕ) × (slot : ℕ) × Read fetched pc (instr.Join l slot) × (done.core.pc ≡ suc pc)
+    × (slice_get s.handles slot ≡ Some (Some child))
 OfSlot fetched s t done (act.JoinStep l child) =
-    (pc : ℕ) × (slot : ℕ) × Read fetched pc (instr.JoinStep l slot) × (done.core.pc ≡ suc pc) × (slice_get s.handles slot ≡ Some (Some child))
+    (pc : ℕ) × (slot : ℕ) × Read fetched pc (instr.JoinStep l slot) × (done.core.pc ≡ suc pc)
+    × (slice_get s.handles slot ≡ Some (Some child))
 OfSlot fetched s t done _ = Unit {0}
 
 -- no child more

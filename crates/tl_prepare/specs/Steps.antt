@@ -65,11 +65,12 @@ NamesChild handles (Acts (act.JoinStep l child)) = Named handles child
 NamesChild handles (Acts (act.Fork l child)) = ⊥
 NamesChild handles r = Unit {0}
 
--- The slot of a fork or a join is that of an instruction which is read at its place: the child of a fork goes into the slot and begins at the
--- place behind, and the child of a join is the one in the slot.
+-- The slot of a fork or a join is that of an instruction which is read at its place: the child of a fork goes into the slot and begins at
+-- the place behind, and the child of a join is the one in the slot.
 abbrev pub InSlot : (ReadAt : ℕ → Instr → Type 0) → Stepped → (old new : Runner) → Type 0
 InSlot ReadAt (Forks l g begin child) old new =
-    (pc : ℕ) × (slot : ℕ) × (to : ℕ) × ReadAt pc (instr.Fork l g slot to) × (begin ≡ suc pc) × (new.handles.items ≡ slice_set old.handles.items slot (Some child))
+    (pc : ℕ) × (slot : ℕ) × (to : ℕ) × ReadAt pc (instr.Fork l g slot to) × (begin ≡ suc pc)
+    × (new.handles.items ≡ slice_set old.handles.items slot (Some child))
 InSlot ReadAt (Acts (act.Join l child)) old new =
     (pc : ℕ) × (slot : ℕ) × ReadAt pc (instr.Join l slot) × (new.pc ≡ suc pc) × (slice_get old.handles.items slot ≡ Some (Some child))
 InSlot ReadAt (Acts (act.JoinStep l child)) old new =
@@ -77,8 +78,8 @@ InSlot ReadAt (Acts (act.JoinStep l child)) old new =
 InSlot ReadAt r old new = Unit {0}
 
 -- this instruction is at this place
-abbrev pub Only : (pc : ℕ) → Instr → (q : ℕ) → Instr → Type 0
-Only pc i q j = (q ≡ pc) × (j ≡ i)
+abbrev pub IsAt : (pc : ℕ) → Instr → (q : ℕ) → Instr → Type 0
+IsAt pc i q j = (q ≡ pc) × (j ≡ i)
 
 -- THE STEP IS THE MACHINE'S, however it goes on
 pub record IsStep (full : Bool) (old : Runner) (i : Instr) (r : Stepped) (new : Runner) : Type 0 where
@@ -87,7 +88,7 @@ pub record IsStep (full : Bool) (old : Runner) (i : Instr) (r : Stepped) (new : 
   pub counted : r ≡ Went → full ≡ false
   pub children : Children r old new
   pub child : NamesChild old.handles.items r
-  pub slot : InSlot (Only old.pc i) r old new
+  pub slot : InSlot (IsAt old.pc i) r old new
 
 abbrev pub IsFork : Instr → Type 0
 IsFork (instr.Fork l g slot to) = Unit {0}

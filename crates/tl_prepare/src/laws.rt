@@ -19,8 +19,8 @@ pub fn children_stay_own()
     ensures { ChildrenStayOwn }
 {}
 
-/// The states that are prepared of a state which fits some code fit the code again, where it has the instructions that were read: but for the
-/// bounds on their numbers of acts and forks.
+/// The states that are prepared of a state which fits some code fit the code again, where it has the instructions that were read: but for
+/// the bounds on their numbers of acts and forks.
 pub fn what_is_prepared_fits_again()
     ensures { PreparedFits }
 {

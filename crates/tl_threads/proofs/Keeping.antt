@@ -1,7 +1,7 @@
 -- Which handles are known behind an act: those that were known before it, and the one that was just forked.
 --
 -- The machine does the same where the slots beyond those of the known handles are empty. So what stands there behind the act was there.
-use Rattle.std.proofs.Common.{◌≡◌, ◌⊎◌, ℕ, zero, suc, ◌+◌, ◌<◌, List, [], ◌∷◌, length, Bool, true, false, cond, nat_le, nat_lt, Option, Some, None, refl, sym, ap, subst, ◌∙◌, inl, inr, ⊎_elim, arith, slice_get, slice_set}
+use Rattle.std.proofs.Common.{◌≡◌, ◌⊎◌, ℕ, zero, suc, ◌<◌, List, [], ◌∷◌, length, Bool, true, false, cond, nat_le, nat_lt, Option, Some, None, refl, sym, ap, subst, ◌∙◌, inl, inr, ⊎_elim, arith, slice_get, slice_set}
 use Rattle.std.specs.Prelude.{replicate}
 use Rattle.std.proofs.lemmas.List.{length-set}
 use Rattle.tb_base.specs.declared.path.Region.{Region}
@@ -15,7 +15,7 @@ use Rattle.tl_threads.specs.Threads.{Inner, next}
 use Rattle.tl_threads.specs.Code.{test_code}
 use Rattle.tl_threads.specs.Machine.{Core, Did, Doing, Code, Go, taken, step, run, did, locally, counted, counted_on, go_if, with_child, stays}
 use Rattle.tl_threads.specs.Machine.Doing.{pokes, peeks, expects, arrives, forks, joins, joinsteps, spends, ends}
-use Rattle.tl_threads.specs.Stands.{Places, code_of, Stands, born, put, Fulfils}
+use Rattle.tl_threads.specs.Stands.{Places, code_of, born, put, Fulfils}
 use Rattle.tl_threads.specs.Fits.{FitsPlace, FitsCode, CodeOf}
 use Rattle.tl_threads.specs.Behind.{ForkedInto, JoinedFrom, Behind, Begun}
 use Rattle.tl_threads.proofs.Fitting.{stands_fits, fits_stands}

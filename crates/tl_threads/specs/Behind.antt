@@ -1,5 +1,5 @@
 -- What fits behind an act, and which handles are known there.
-use Rattle.std.specs.Prelude.{◌≡◌, ◌⊎◌, ℕ, suc, ◌<◌, length, Bool, false, Some}
+use Rattle.std.specs.Prelude.{◌≡◌, ◌⊎◌, ℕ, suc, ◌<◌, length, false, Some}
 use Rattle.tb_base.specs.declared.path.Region.{Region}
 use Rattle.tl_threads.specs.declared.code.Placed.{Placed}
 use Rattle.tl_threads.specs.declared.code.Instr.TheVariants.{Fork, Join}

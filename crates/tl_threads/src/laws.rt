@@ -42,8 +42,8 @@ pub fn what_fits_stands()
     ensures { FitsStands }
 {}
 
-/// What fits a place of a test's code fits again behind an act, and so does a child that begins. A handle that is known there was known before
-/// the act or is the one that was just forked, and a child that was joined is one of a handle that was known.
+/// What fits a place of a test's code fits again behind an act, and so does a child that begins. A handle that is known there was known
+/// before the act or is the one that was just forked, and a child that was joined is one of a handle that was known.
 pub fn acts_fit_again()
     ensures { ActsFit }
 {}
