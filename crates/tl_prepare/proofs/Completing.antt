@@ -1,12 +1,11 @@
 -- What was executed, put together.
-use Rattle.std.proofs.Common.{◌≡◌, ◌⊎◌, ℕ, zero, suc, ◌+◌, ◌<◌, ◌≤◌, List, [], ◌∷◌, ◌++◌, length, Bool, true, false, cond, Option, Some, None, refl, sym, ap, subst, ◌∙◌, inl, inr, arith, slice_get, slice_set}
+use Rattle.std.proofs.Common.{◌≡◌, ℕ, suc, List, [], ◌∷◌, ◌++◌, Option, Some, None, refl, sym, ap, subst, ◌∙◌, inl, inr, slice_get, slice_set}
 use Rattle.tb_base.specs.declared.path.Region.{Region}
 use Rattle.tb_base.specs.declared.path.Region.TheVariants.{Main}
-use Rattle.tl_threads.specs.Machine.{Core, Did, Code, Go, run, core_after}
+use Rattle.tl_threads.specs.Machine.{Did, Go, run}
 use Rattle.tl_threads.specs.Machine.Doing.{forks}
 use Rattle.tl_code.specs.declared.state.ThreadState.{ThreadState}
 use Rattle.tl_code.specs.declared.state.Fetched.{Fetched}
-use Rattle.tl_code.specs.Codes.{core_of}
 use Rattle.tl_prepare.specs.declared.act.Act.{Act}
 use Rattle.tl_prepare.specs.declared.act.Act.TheVariants as act
 use Rattle.tl_prepare.specs.declared.runner.Runner.{Runner}
@@ -14,9 +13,8 @@ use Rattle.tl_prepare.specs.declared.execute.Executed.{Executed}
 use Rattle.tl_prepare.specs.declared.step.Stepped.{Stepped}
 use Rattle.tl_prepare.specs.declared.step.Stepped.TheVariants.{Jumped, Went, Acts, Forks, Stuck}
 use Rattle.tl_prepare.specs.Steps.{core_of_runner, doing_of, after, Same, OneMore, Children, Named, NamesChild, InSlot}
-use Rattle.tl_prepare.specs.Runs.{HoldsAll, Read, Gives}
-use Rattle.tl_prepare.specs.Work.{Work}
-use Rattle.tl_prepare.specs.Given.{joined_by, moved, stayed, state_after, newborn, next_child, OfChild, OfSlot, ChildrenAfter, IsNext, IsBorn, region_of, most_local, Ran, IsPrepared}
+use Rattle.tl_prepare.specs.Runs.{Read}
+use Rattle.tl_prepare.specs.Given.{moved, state_after, newborn, next_child, OfChild, OfSlot, IsNext, most_local, Ran, IsPrepared}
 
 nothing : Go
 nothing s = None

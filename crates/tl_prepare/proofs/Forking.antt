@@ -1,5 +1,5 @@
 -- A fork, as the machine has it.
-use Rattle.std.proofs.Common.{◌≡◌, ℕ, zero, suc, ◌+◌, List, [], ◌∷◌, ◌++◌, map, Option, Some, None, option_map, slice_set, Bool, refl, sym, ap, ◌∙◌, arith}
+use Rattle.std.proofs.Common.{◌≡◌, ℕ, zero, suc, ◌+◌, List, [], ◌∷◌, ◌++◌, map, Option, Some, option_map, slice_set, Bool, refl, sym, ap, ◌∙◌, arith}
 use Rattle.std.specs.Prelude.{reverse}
 use Rattle.tb_base.specs.declared.path.Region.{Region}
 use Rattle.tl_threads.specs.declared.code.Instr.TheVariants as instr

@@ -1,5 +1,5 @@
 -- Instructions that code has, as two definitions say it.
-use Rattle.std.proofs.Common.{◌≡◌, ◌∙◌, List, [], ◌∷◌, Some, All, Result, Ok, Err, IfOk, subst, sym}
+use Rattle.std.proofs.Common.{◌≡◌, List, [], ◌∷◌, Some, All, Result, Ok, Err, IfOk, subst, sym}
 use Rattle.std.proofs.lemmas.List.Elements.{All-nil, All-cons, All-head, All-tail}
 use Rattle.tl_threads.specs.Machine.{Code}
 use Rattle.tl_code.specs.declared.state.Fetched.{Fetched}

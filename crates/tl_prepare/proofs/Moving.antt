@@ -1,5 +1,5 @@
 -- What is prepared is the next move.
-use Rattle.std.proofs.Common.{◌≡◌, length, subst}
+use Rattle.std.proofs.Common.{length, subst}
 use Rattle.tl_threads.specs.Laws.{CodeRefines, OneAction}
 use Rattle.tl_threads.specs.Machine.{Did}
 use Rattle.tl_threads.specs.Stands.{Fulfils}

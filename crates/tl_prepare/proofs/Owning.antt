@@ -1,12 +1,11 @@
 -- The children that states name.
-use Rattle.std.proofs.Common.{◌≡◌, ◌⊎◌, ℕ, zero, suc, ◌+◌, ◌<◌, ◌≤◌, List, [], ◌∷◌, ◌++◌, length, Option, Some, None, refl, sym, ap, subst, ◌∙◌, inl, inr, ⊎_elim, arith, slice_get, slice_set}
+use Rattle.std.proofs.Common.{◌≡◌, ◌⊎◌, ℕ, zero, suc, ◌≤◌, List, [], ◌∷◌, ◌++◌, length, Option, Some, None, sym, ap, subst, ◌∙◌, inl, inr, ⊎_elim, arith, slice_get, slice_set}
 use Rattle.std.specs.Prelude.{replicate}
 use Rattle.tl_code.specs.declared.state.ThreadState.{ThreadState}
 use Rattle.tl_code.specs.Codes.{IsChild, IsJoined, OwnChildren}
 use Rattle.tl_prepare.specs.declared.act.Act.{Act}
 use Rattle.tl_prepare.specs.declared.act.Act.TheVariants as act
-use Rattle.tl_prepare.specs.Work.{Work}
-use Rattle.tl_prepare.specs.Given.{joined_by, newborn, next_child, OfChild, NoneMore, OneChild, ChildrenAfter, IsNext, IsBorn, IsPrepared}
+use Rattle.tl_prepare.specs.Given.{joined_by, newborn, next_child, OfChild, ChildrenAfter, IsBorn}
 use Rattle.tl_prepare.specs.Laws.{ChildrenStayOwn}
 
 -- a slot that was written has what it had or what was written

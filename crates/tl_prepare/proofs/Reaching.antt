@@ -1,5 +1,5 @@
 -- How far the machine has come.
-use Rattle.std.proofs.Common.{◌≡◌, ◌≢◌, ◌⊎◌, ◌↔◌, ℕ, zero, suc, ◌+◌, ◌-◌, ◌*◌, ◌<◌, ◌≤◌, List, [], ◌∷◌, ◌++◌, length, map, Bool, true, false, cond, nat_le, nat_lt, Option, Some, None, option_map, refl, sym, ap, subst, ◌∙◌, inl, inr, ⊎_elim, arith, slice_get, slice_set}
+use Rattle.std.proofs.Common.{◌≡◌, ℕ, zero, suc, ◌+◌, ◌<◌, ◌≤◌, List, [], ◌∷◌, ◌++◌, length, Bool, nat_le, Option, Some, None, refl, sym, ap, subst, ◌∙◌, arith, slice_get, slice_set}
 use Rattle.std.proofs.lemmas.Bool.{leb-false}
 use Rattle.tb_base.specs.declared.path.Region.{Region}
 use Rattle.tb_base.specs.declared.path.Region.TheVariants.{Main}
@@ -10,7 +10,6 @@ use Rattle.tl_threads.specs.declared.code.Placed.{Placed}
 use Rattle.tl_threads.specs.Machine.{Core, Did, Code, Go, step, run}
 use Rattle.tl_threads.specs.Stands.{instr_of}
 use Rattle.tl_code.specs.declared.state.Fetched.{Fetched}
-use Rattle.tl_code.specs.Codes.{child_number}
 use Rattle.tl_prepare.specs.declared.act.Act.{Act}
 use Rattle.tl_prepare.specs.declared.act.Act.TheVariants as act
 use Rattle.tl_prepare.specs.declared.runner.Runner.{Runner}
@@ -18,7 +17,7 @@ use Rattle.tl_prepare.specs.declared.execute.Executed.{Executed}
 use Rattle.tl_prepare.specs.declared.step.Stepped.{Stepped}
 use Rattle.tl_prepare.specs.declared.step.Stepped.TheVariants.{Jumped, Went, Acts, Forks, Stuck}
 use Rattle.tl_prepare.specs.Steps.{core_of_runner, doing_of, after, Same, OneMore, Children, NamesChild, InSlot, IsAt, IsStep, IsFork}
-use Rattle.tl_prepare.specs.Runs.{code_at, HoldsAll, Read, NotesMore, CanNote, Works, Gives}
+use Rattle.tl_prepare.specs.Runs.{code_at, HoldsAll, Read, NotesMore, Works, Gives}
 
 -- what the loop keeps
 pub record Reaches (limit : ℕ) (code : List Placed) (start : Runner) (used : ℕ) (at : Runner) (fetched : List Fetched) : Type 0 where

@@ -1,5 +1,5 @@
 -- Operands worked out item by item.
-use Rattle.std.proofs.Common.{◌≡◌, ℕ, zero, suc, ◌+◌, ◌<◌, List, [], ◌∷◌, ◌++◌, length, take, Option, Some, None, slice_get, slice_index, refl, sym, ap, ◌∙◌}
+use Rattle.std.proofs.Common.{◌≡◌, ℕ, zero, suc, ◌+◌, List, [], ◌∷◌, ◌++◌, take, None, slice_get, slice_index, refl, sym, ap, ◌∙◌}
 use Rattle.tl_threads.specs.declared.code.Item.{Item}
 use Rattle.tl_threads.specs.Machine.{stacked, worked}
 

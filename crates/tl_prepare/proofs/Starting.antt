@@ -1,13 +1,13 @@
 -- A state that fits code isn't stuck.
-use Rattle.std.proofs.Common.{◌≡◌, ℕ, suc, ◌+◌, ◌<◌, ◌≤◌, List, [], length, Option, Some, None, refl, sym, ap, subst, ◌∙◌, arith, slice_get}
+use Rattle.std.proofs.Common.{◌≡◌, ℕ, suc, ◌<◌, List, length, Some, None, sym, subst, arith}
 use Rattle.tb_base.specs.declared.path.Region.{Region}
 use Rattle.bench_model.specs.World.{Move}
 use Rattle.bench_model.specs.World.Move.{poke, peek, expect, fork, join, arrive, joinstep, spend, end}
 use Rattle.tl_threads.specs.declared.code.Placed.{Placed}
 use Rattle.tl_threads.specs.Fits.{StandsFits}
 use Rattle.tl_threads.specs.Laws.{CodeRefines}
-use Rattle.tl_threads.specs.Machine.{Core, Did, run}
-use Rattle.tl_threads.specs.Stands.{Places, Stands, Fulfils, Only, born}
+use Rattle.tl_threads.specs.Machine.{Core, Did}
+use Rattle.tl_threads.specs.Stands.{Fulfils, born}
 use Rattle.tl_threads.specs.Threads.{Inner, next}
 use Rattle.tl_code.specs.declared.state.ThreadState.{ThreadState}
 use Rattle.tl_code.specs.Compiled.{Compiled}

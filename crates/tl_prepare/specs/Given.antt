@@ -2,7 +2,7 @@
 use Rattle.std.specs.Prelude.{◌≡◌, ◌⊎◌, ◌+◌, ℕ, suc, List, [], ◌∷◌, ◌++◌, length, Bool, true, false, cond, Option, Some, None, replicate, slice_get, slice_set}
 use Rattle.tb_base.specs.declared.path.Region.{Region}
 use Rattle.tb_base.specs.declared.path.Region.TheVariants.{Main}
-use Rattle.tl_threads.specs.Machine.{Core, Did, Code, run, core_after}
+use Rattle.tl_threads.specs.Machine.{Did, Code, run, core_after}
 use Rattle.tl_code.specs.declared.state.ThreadState.{ThreadState}
 use Rattle.tl_code.specs.declared.state.Fetched.{Fetched}
 use Rattle.tl_threads.specs.declared.code.Instr.TheVariants as instr

@@ -1,12 +1,11 @@
 -- Code that is executed up to an act.
-use Rattle.std.specs.Prelude.{◌≡◌, ◌↔◌, ◌<◌, ℕ, List, [], ◌∷◌, length, Option, Some, None, slice_get}
+use Rattle.std.specs.Prelude.{◌≡◌, ◌↔◌, ◌<◌, ℕ, List, [], ◌∷◌, length, Some, slice_get}
 use Rattle.tl_threads.specs.declared.code.Instr.{Instr}
 use Rattle.tl_threads.specs.declared.code.Placed.{Placed}
 use Rattle.tl_threads.specs.Machine.{Core, Did, Code, Go, run}
 use Rattle.tl_threads.specs.Stands.{code_of}
 use Rattle.tl_code.specs.declared.state.Fetched.{Fetched}
 use Rattle.tl_prepare.specs.declared.runner.Runner.{Runner}
-use Rattle.tl_prepare.specs.declared.step.Stepped.{Stepped}
 use Rattle.tl_prepare.specs.declared.execute.Executed.{Executed}
 use Rattle.tl_prepare.specs.Steps.{core_of_runner, after, Children, NamesChild, InSlot}
 

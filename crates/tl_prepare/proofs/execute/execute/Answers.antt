@@ -1,5 +1,4 @@
-use Rattle.std.proofs.Common.{refl, rules, arith, sym, ◌∙◌}
-use Rattle.std.specs.Prelude.{length}
+use Rattle.std.proofs.Common.{refl, rules, arith, sym}
 use Rattle.tl_code.proofs.First.{some_within}
 use Rattle.tl_prepare.specs.Runs.{code_at}
 use Rattle.tl_prepare.proofs.Reaching.{noted, reaches_jump, reaches_went, gives_act, gives_fork, never_stuck, no_place, room_here, placed_is, nothing_placed}

@@ -1,4 +1,4 @@
-use Rattle.std.proofs.Common.{ℕ, ◌+◌, ◌-◌, ◌*◌, length}
+use Rattle.std.proofs.Common.{◌+◌, ◌-◌, ◌*◌, length}
 use Rattle.tl_prepare.proofs.Reaching.{Reaches}
 use Rattle.tl_prepare.proofs.execute.execute.Given as goal
 
