@@ -1,0 +1,4 @@
+pub mod Apart
+pub mod SettingFacts
+pub mod Computed
+pub mod Small
