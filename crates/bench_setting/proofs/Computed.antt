@@ -13,7 +13,7 @@ use Rattle.bench_model.specs.Settle.{Setting}
 use Rattle.bench_model.specs.Orders.{Result, first_order, replay, run_of}
 use Rattle.bench_model.specs.Examples.{few}
 use Rattle.bench_model.proofs.Listed.{listed_run_of, listed_replay, listed_first, run_computed, first_computed}
-use Rattle.bench_setting.specs.Settings.{fitted, zeros}
+use Rattle.bench_setting.specs.Settings.{fitted_to, zeros}
 use Rattle.bench_setting.specs.Examples.{test_for, setting, given, given_by}
 
 pub record Known (e : Elab) : Type 0 where
@@ -26,7 +26,7 @@ pub record Known (e : Elab) : Type 0 where
 
 abbrev pub known_setting : (e : Elab) → Known e → Body → Setting
 known_setting e k body = record {
-  model = threads_over most_local (fitted e) k.number k.cone;
+  model = threads_over most_local (fitted_to e) k.number k.cone;
   limits = few;
   edge = k.after;
   sample = λ ins regs. map (λ port. k.number ins regs port.1.signal.0) (ports_of e);
@@ -38,7 +38,7 @@ known_setting e k body = record {
 module _ (e : Elab) (k : Known e) (test : List TestStmt) (body : Body) (b : test_body (ports_of e) (record { body = test }) ≡ body) where
   setting_known : setting e test ≡ known_setting e k body
   setting_known = λ i. record {
-    model = threads_over most_local (fitted e) (λ ins regs x. k.number_is ins regs x i) (λ x p. k.cone_is x p i);
+    model = threads_over most_local (fitted_to e) (λ ins regs x. k.number_is ins regs x i) (λ x p. k.cone_is x p i);
     limits = few;
     edge = λ ins regs. k.after_is ins regs i;
     sample = λ ins regs. map (λ port. k.number_is ins regs port.1.signal.0 i) (ports_of e);

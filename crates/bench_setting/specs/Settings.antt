@@ -18,17 +18,19 @@ abbrev pub zeros : Elab → List ℕ
 zeros e = replicate (length e.signals) 0
 
 -- what an input takes of a number that is poked: its low bits, as many as the input's width
-abbrev pub fitted : Elab → (port raw : ℕ) → ℕ
-fitted e port raw = raw % 2 ^ given_width (info e.signals port)
+abbrev pub fitted_to : Elab → (port raw : ℕ) → ℕ
+fitted_to e port raw = raw % 2 ^ given_width (info e.signals port)
 
 -- the numbers of all ports, in signal order
 abbrev pub port_numbers : Elab → (inputs registers : List ℕ) → List ℕ
 port_numbers e inputs registers = map (λ port. number_at e inputs registers port.1.signal.0) (ports_of e)
 
--- the same with another limit of local statements between two acts
-abbrev pub setting_within : (local : ℕ) → Elab → TestFor → Limits → Setting
-setting_within local e k limits = record {
-  model = threads_over local (fitted e) (number_at e) (in_cone e);
+-- THE SETTING of a test over a circuit. A poke sets the low bits of its input; peeks and expects find the settled number of a port, which
+-- depends on the inputs of the port's cone; registers take their next values at an edge; and each time step is sampled at all ports. At
+-- first all inputs and registers are 0, and there is the root thread with the whole test.
+abbrev pub setting_of : Elab → TestFor → Limits → Setting
+setting_of e k limits = record {
+  model = threads_over most_local (fitted_to e) (number_at e) (in_cone e);
   limits = limits;
   edge = registers_after e;
   sample = port_numbers e;
@@ -36,12 +38,6 @@ setting_within local e k limits = record {
   registers = zeros e;
   root = root_of (test_body k.ports k.test);
 }
-
--- THE SETTING of a test over a circuit: a poke sets the low bits of its input; peeks and expects find the settled number of a port,
--- which depends on the inputs of the port's cone; the registers take their next values at an edge; each time step is sampled at all ports;
--- and at first all inputs and registers are 0, and there is the root thread with the whole test
-abbrev pub setting_of : Elab → TestFor → Limits → Setting
-setting_of e k limits = setting_within most_local e k limits
 
 -- AT EACH TEST that keeps the rules for its ports, over each circuit that runs, within any limits
 abbrev pub AtEachTest : (Setting → Type 0) → Type 0

@@ -1,11 +1,10 @@
-use Rattle.std.proofs.Common.{refl}
-use Rattle.tl_threads.proofs.Pieces.{laid_out}
 use Rattle.bench_model.specs.Paths.{child, is_path}
 use Rattle.bench_setting.specs.Examples.{sum, apart}
+use Rattle.bench_setting.proofs.Bodies.{apart_laid}
 use Rattle.bench_setting.proofs.Computed.{computed}
 use Rattle.bench_setting.proofs.Small.{of_sum}
 use Rattle.bench_setting.proofs.examples.poke_apart.Goals as goal
 
 pub returns : goal.returns
 unfolding child is_path
-returns c = computed sum of_sum apart _ (simp laid_out refl)
+returns c = computed sum of_sum apart apart_laid.body apart_laid.is
