@@ -5,8 +5,9 @@ use Rattle.tb_base.specs.declared.path.Region.TheVariants.{Main, Monitor}
 use Rattle.net_core.specs.declared.tree.Elab.{Elab}
 use Rattle.net_core.specs.Examples.{s, delay}
 use Rattle.net_design.specs.Designs.{ports_of}
+use Rattle.tl_ast.specs.declared.tree.TestOp.TheVariants.{Add}
 use Rattle.tl_ast.specs.declared.tree.TestStmt.{TestStmt}
-use Rattle.tl_threads.specs.Values.Expr.{number}
+use Rattle.tl_threads.specs.Values.Expr.{number, two}
 use Rattle.tl_threads.specs.Bodies.{Body, test_body}
 use Rattle.tl_threads.specs.Bodies.Body.{nil, poke_port, peek_port, expect_port, step_by, fork_as, join_of}
 use Rattle.tl_threads.proofs.Pieces.{laid_out}
@@ -21,7 +22,7 @@ pub record Laid (e : Elab) (test : List TestStmt) : Type 0 where
   pub is : test_body (ports_of e) (record { body = test }) ≡ body
 
 abbrev pub pokes_and_peek_laid : Laid sum pokes_and_peek
-pokes_and_peek_laid = record { body = poke_port 1 (s 0) (number 259) (poke_port 2 (s 1) (number 4) (peek_port 3 (s 2) None nil)); is = simp laid_out refl }
+pokes_and_peek_laid = record { body = poke_port 1 (s 0) (two Add (number 255) (number 4)) (poke_port 2 (s 1) (number 4) (peek_port 3 (s 2) None nil)); is = simp laid_out refl }
 
 abbrev pub race_laid : Laid sum race
 race_laid = record { body = fork_as 1 Main h (poke_port 2 (s 0) (number 1) nil) (peek_port 3 (s 2) None nil); is = simp laid_out refl }

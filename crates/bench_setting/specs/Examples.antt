@@ -2,15 +2,17 @@
 --
 -- The adder has the inputs `a` and `b` of 8 bits, and `out`, their sum, of 9. The delay has the inputs `a` and `reset`, and `out`, which is
 -- what `a` was before the edge.
-use Rattle.std.specs.Prelude.{ℕ, List, [], ◌∷◌, Option, Some, None, codes}
+use Rattle.std.specs.Prelude.{◌≡◌, ℕ, List, [], ◌∷◌, Option, Some, None, codes}
 use Rattle.tb_base.specs.declared.path.Region.TheVariants.{Monitor}
 use Rattle.net_core.specs.declared.tree.Elab.{Elab}
 use Rattle.net_core.specs.Examples.{adder, delay}
 use Rattle.net_design.specs.Designs.{ports_of}
-use Rattle.tl_ast.specs.declared.tree.TestExpr.TheVariants.{Num}
+use Rattle.tl_ast.specs.declared.tree.TestExpr.TheVariants.{Num, Two}
+use Rattle.tl_ast.specs.declared.tree.TestOp.TheVariants.{Add}
 use Rattle.tl_ast.specs.declared.tree.TestStmt.{TestStmt}
 use Rattle.tl_ast.specs.declared.tree.TestStmt.TheVariants.{Poke, Peek, Expect, Step, Fork, Join}
 use Rattle.tl_check.specs.Checked.{TestFor}
+use Rattle.tl_check.specs.Walk.{test_rule}
 use Rattle.bench_model.specs.Paths.{Path}
 use Rattle.bench_model.specs.Settle.{Setting}
 use Rattle.bench_model.specs.Orders.{Result, first_order, replay, run_of}
@@ -56,9 +58,9 @@ out = codes "out"
 abbrev h : List ℕ
 h = codes "h"
 
--- `poke a = 259; poke b = 4; peek out;`
+-- `poke a = 255 + 4; poke b = 4; peek out;`
 abbrev pub pokes_and_peek : List TestStmt
-pokes_and_peek = poke 1 a 259 ∷ poke 2 b 4 ∷ peek 3 out ∷ []
+pokes_and_peek = Poke 1 a (Two Add (Num 255) (Num 4)) ∷ poke 2 b 4 ∷ peek 3 out ∷ []
 
 -- `fork h { poke a = 1; } peek out;`
 abbrev pub race : List TestStmt
@@ -83,3 +85,16 @@ fails = poke 1 a 1 ∷ Expect 2 out (Num 2) ∷ peek 3 a ∷ []
 -- `fork h { poke a = 9; } peek out; step 1; peek out;`, over the delay
 abbrev pub past_register : List TestStmt
 past_register = Fork 1 None h (poke 2 a 9 ∷ []) ∷ peek 3 out ∷ Step 4 1 ∷ peek 5 out ∷ []
+
+-- the test keeps the rules for the ports of its circuit, as the laws of orders ask
+abbrev pub KeepsRules : Elab → List TestStmt → Type 0
+KeepsRules e body = test_rule (test_for e body).test (test_for e body).ports ≡ None
+
+pub record RuleExamples : Type 0 where
+  pub pokes_and_peek : KeepsRules sum pokes_and_peek
+  pub race : KeepsRules sum race
+  pub apart : KeepsRules sum apart
+  pub joined : KeepsRules sum joined
+  pub watched : KeepsRules sum watched
+  pub fails : KeepsRules sum fails
+  pub past_register : KeepsRules delay past_register

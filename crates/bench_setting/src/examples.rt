@@ -6,7 +6,12 @@ ghost use Rattle.bench_model.specs.Log.Kind.{pokes, peeks};
 ghost use Rattle.bench_model.specs.Settle.Ending.{failed, finished};
 ghost use Rattle.bench_model.specs.Orders.{conflict, settles};
 ghost use Rattle.bench_model.specs.Examples.{event, peeked, failed_expect, ends_with};
-ghost use Rattle.bench_setting.specs.Examples.{sum, given, given_by, pokes_and_peek, race, apart, joined, watched, fails, past_register};
+ghost use Rattle.bench_setting.specs.Examples.{sum, given, given_by, pokes_and_peek, race, apart, joined, watched, fails, past_register, RuleExamples};
+
+/// The tests of the examples keep the rules for the ports of their circuits.
+pub fn the_tests_keep_the_rules()
+    ensures { RuleExamples }
+{}
 
 /// An input takes the low bits of a number, a peek finds the settled number, and the time step is sampled at all ports.
 pub fn poke_then_peek()

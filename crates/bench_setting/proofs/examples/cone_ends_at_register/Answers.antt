@@ -3,9 +3,9 @@ use Rattle.net_core.specs.Examples.{delay}
 use Rattle.bench_setting.specs.Examples.{past_register}
 use Rattle.bench_setting.proofs.Bodies.{past_register_laid}
 use Rattle.bench_setting.proofs.Computed.{computed}
-use Rattle.bench_setting.proofs.Small.{of_delay}
+use Rattle.bench_setting.proofs.Small.{delay_circuit, of_delay}
 use Rattle.bench_setting.proofs.examples.cone_ends_at_register.Goals as goal
 
 pub returns : goal.returns
 unfolding child is_path
-returns c = computed delay of_delay past_register past_register_laid.body past_register_laid.is
+returns c = computed delay delay_circuit of_delay past_register past_register_laid.body past_register_laid.is
