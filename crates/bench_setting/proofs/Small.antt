@@ -5,7 +5,7 @@ use Rattle.std.proofs.lemmas.Bool.{eqb-true}
 use Rattle.tb_base.specs.Word.{low_bits}
 use Rattle.net_core.specs.Settled.{rule, edge}
 use Rattle.net_core.specs.Examples.{delay}
-use Rattle.net_core.proofs.Trees.{of_declare, of_set, of_when, at_read, at_lit, at_apply}
+use Rattle.net_core.proofs.Trees.{of_declare, of_set, at_read, at_lit, at_apply}
 use Rattle.net_design.specs.Naming.{in_cone}
 use Rattle.net_design.specs.Settling.{rounds, settled_at, number_at, registers_after}
 use Rattle.bench_setting.specs.Settings.{Circuit}
