@@ -1,7 +1,7 @@
 -- An input outside the cone of a signal doesn't change the signal's number.
 use Rattle.std.proofs.Common.{◌≡◌, ◌∙◌, sym, ap, subst, ℕ, zero, suc, ◌<◌, ◌≤◌, Bool, true, false, ◌&&◌, List, length, ⊎_elim, refl, arith, slice_set, get_or-set_other}
 use Rattle.std.specs.Prelude.{slice_index, unwrap_or}
-use Rattle.std.proofs.lemmas.Bool.{both_ways}
+use Rattle.std.proofs.lemmas.Bool.{both_ways, cases_lt}
 use Rattle.std.proofs.lemmas.List.{get_or_past}
 use Rattle.tb_base.specs.Word.{Word, low_bits, value_of}
 use Rattle.tb_base.specs.Row.{no_word}
@@ -16,7 +16,6 @@ use Rattle.net_core.specs.Settled.{by_role, fitted, last_connect}
 use Rattle.net_core.specs.Depends.{Reaches}
 use Rattle.net_core.proofs.FormedFacts.{within}
 use Rattle.net_core.proofs.SettledFacts.{value_apart, in_order}
-use Rattle.net_graph.proofs.SearchFacts.{before_or_past}
 use Rattle.net_design.specs.Designs.{Runs}
 use Rattle.net_design.specs.Naming.{in_cone, leads_within}
 use Rattle.net_design.specs.Settling.{rounds, settled_at, number_at}
@@ -26,7 +25,8 @@ both : (c d : Bool) → c ≡ true → d ≡ true → (c && d) ≡ true
 both c d g k = rw g (rw k refl)
 
 -- an input that a signal reaches is in its cone
-reached_in_cone : (e : Elab) (m : Net) → Runs e m → (x p : ℕ) → x < length e.signals → Reaches e p x → (info e.signals p).role ≡ Input → in_cone e x p ≡ true
+reached_in_cone : (e : Elab) (m : Net) → Runs e m → (x p : ℕ) → x < length e.signals → Reaches e p x
+    → (info e.signals p).role ≡ Input → in_cone e x p ≡ true
 reached_in_cone e m r x p h t i =
     both (is_input (info e.signals p).role) (leads_within e (length e.signals) x p) (ap is_input i) (leads e r.sized.formed r.no_loop p x h t)
 
@@ -48,7 +48,8 @@ nothing word = let l = low_bits-lt 0 (value_of word) in omega (arith, l)
 past_signals : (e : Elab) (ins regs : ℕ → ℕ) (n s : ℕ) → length e.signals ≤ s → rounds e ins regs n s ≡ 0
 past_signals e ins regs zero s h = refl
 past_signals e ins regs (suc n) s h =
-    ap (λ (i : SignalInfo). by_role i.role (ins s) (regs s) (fitted i (unwrap_or (last_connect e (rounds e ins regs n) s) no_word))) (get_or_past e.signals s no_info h)
+    ap (λ (i : SignalInfo). by_role i.role (ins s) (regs s) (fitted i (unwrap_or (last_connect e (rounds e ins regs n) s) no_word)))
+    (get_or_past e.signals s no_info h)
     ∙ nothing (unwrap_or (last_connect e (rounds e ins regs n) s) no_word)
 
 settled_same : (e : Elab) (m : Net) → Runs e m → (ins regs : List ℕ) (s p v : ℕ) → in_cone e s p ≡ false
@@ -58,7 +59,7 @@ settled_same e m r ins regs s p v out =
     (λ h.
     past_signals e (λ x. slice_index (slice_set ins p v) x) (λ x. slice_index regs x) (length e.signals) s h
     ∙ sym (past_signals e (λ x. slice_index ins x) (λ x. slice_index regs x) (length e.signals) s h))
-    (before_or_past s (length e.signals))
+    (cases_lt s (length e.signals))
 
 pub number_apart : (e : Elab) (m : Net) → Runs e m → (ins regs : List ℕ) (s p v : ℕ) → in_cone e s p ≡ false
     → number_at e (slice_set ins p v) regs s ≡ number_at e ins regs s

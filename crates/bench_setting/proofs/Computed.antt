@@ -20,15 +20,27 @@ pub record Known (e : Elab) (c : Circuit) : Type 0 where
   pub edge_is : (ins regs : List ℕ) → registers_after e ins regs ≡ c.edge ins regs
   pub cone_is : (x p : ℕ) → in_cone e x p ≡ c.cone x p
 
-module _ (e : Elab) (c : Circuit) (k : Known e c) (test : List TestStmt) (body : Body) (b : test_body (ports_of e) (record { body = test }) ≡ body) where
+-- a test and its body
+pub record Laid (e : Elab) (test : List TestStmt) : Type 0 where
+  pub body : Body
+  pub is : test_body (ports_of e) (record { body = test }) ≡ body
+
+module _ (e : Elab) (c : Circuit) (k : Known e c) (test : List TestStmt) (l : Laid e test) where
   circuit_known : circuit_of e ≡ c
-  circuit_known = λ i. record { number = λ ins regs x. k.number_is ins regs x i; edge = λ ins regs. k.edge_is ins regs i; cone = λ x p. k.cone_is x p i }
+  circuit_known = λ i. record {
+    number = λ ins regs x. k.number_is ins regs x i;
+    edge = λ ins regs. k.edge_is ins regs i;
+    cone = λ x p. k.cone_is x p i;
+  }
 
-  setting_known : setting e test ≡ setting_over e c body few
-  setting_known = λ i. setting_over e (circuit_known i) (b i) few
+  abbrev known : Setting
+  known = setting_over e c l.body few
 
-  pub order_computed : (order : List Path) → given_by e test order ≡ listed_run_of (setting_over e c body few) (listed_replay (setting_over e c body few) order)
-  order_computed order = ap (λ (S : Setting). run_of S (replay S order)) setting_known ∙ run_computed (setting_over e c body few) order
+  setting_known : setting e test ≡ known
+  setting_known = λ i. setting_over e (circuit_known i) (l.is i) few
 
-  pub computed : given e test ≡ listed_run_of (setting_over e c body few) (listed_replay (setting_over e c body few) (listed_first (setting_over e c body few)))
-  computed = ap (λ (S : Setting). run_of S (replay S (first_order S))) setting_known ∙ first_computed (setting_over e c body few)
+  pub order_computed : (order : List Path) → given_by e test order ≡ listed_run_of known (listed_replay known order)
+  order_computed order = ap (λ (S : Setting). run_of S (replay S order)) setting_known ∙ run_computed known order
+
+  pub computed : given e test ≡ listed_run_of known (listed_replay known (listed_first known))
+  computed = ap (λ (S : Setting). run_of S (replay S (first_order S))) setting_known ∙ first_computed known

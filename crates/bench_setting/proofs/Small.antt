@@ -21,9 +21,12 @@ abbrev sum_number : List ℕ → ℕ
 sum_number ins = low_bits 128 (pos (low_bits 9 (pos (low_bits 9 (pos (slice_index ins 0) +ℤ pos (slice_index ins 1))))))
 
 sum_at : (ins regs : List ℕ) → number_at sum ins regs 2 ≡ sum_number ins
-sum_at ins regs = ap (λ (n : ℕ). low_bits 128 (pos n)) (sum_rule (λ x. slice_index ins x) (λ x. slice_index regs x) (rounds sum (λ x. slice_index ins x) (λ x. slice_index regs x) 2))
+sum_at ins regs =
+    ap (λ (n : ℕ). low_bits 128 (pos n))
+    (sum_rule (λ x. slice_index ins x) (λ x. slice_index regs x) (rounds sum (λ x. slice_index ins x) (λ x. slice_index regs x) 2))
 
-number_by : (ins regs : List ℕ) (x : ℕ) (t : Bool) → nat_eq x 2 ≡ t → number_at sum ins regs x ≡ (if t then sum_number ins else number_at sum ins regs x)
+number_by : (ins regs : List ℕ) (x : ℕ) (t : Bool) → nat_eq x 2 ≡ t
+    → number_at sum ins regs x ≡ (if t then sum_number ins else number_at sum ins regs x)
 number_by ins regs x true e = ap (λ y. number_at sum ins regs y) (eqb-true x 2 e) ∙ sum_at ins regs
 number_by ins regs x false e = refl
 
@@ -69,9 +72,12 @@ abbrev out_number : List ℕ → ℕ
 out_number regs = low_bits 128 (pos (low_bits 8 (pos (slice_index regs 3))))
 
 out_at : (ins regs : List ℕ) → number_at delay ins regs 2 ≡ out_number regs
-out_at ins regs = ap (λ (n : ℕ). low_bits 128 (pos n)) (out_rule (λ x. slice_index ins x) (λ x. slice_index regs x) (rounds delay (λ x. slice_index ins x) (λ x. slice_index regs x) 3))
+out_at ins regs =
+    ap (λ (n : ℕ). low_bits 128 (pos n))
+    (out_rule (λ x. slice_index ins x) (λ x. slice_index regs x) (rounds delay (λ x. slice_index ins x) (λ x. slice_index regs x) 3))
 
-out_by : (ins regs : List ℕ) (x : ℕ) (t : Bool) → nat_eq x 2 ≡ t → number_at delay ins regs x ≡ (if t then out_number regs else number_at delay ins regs x)
+out_by : (ins regs : List ℕ) (x : ℕ) (t : Bool) → nat_eq x 2 ≡ t
+    → number_at delay ins regs x ≡ (if t then out_number regs else number_at delay ins regs x)
 out_by ins regs x true e = ap (λ y. number_at delay ins regs y) (eqb-true x 2 e) ∙ out_at ins regs
 out_by ins regs x false e = refl
 

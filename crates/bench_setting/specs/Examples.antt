@@ -7,10 +7,10 @@ use Rattle.tb_base.specs.declared.path.Region.TheVariants.{Monitor}
 use Rattle.net_core.specs.declared.tree.Elab.{Elab}
 use Rattle.net_core.specs.Examples.{adder, delay}
 use Rattle.net_design.specs.Designs.{ports_of}
-use Rattle.tl_ast.specs.declared.tree.TestExpr.TheVariants.{Num, Two}
+use Rattle.tl_ast.specs.declared.tree.TestExpr.TheVariants.{Num, Var, Two}
 use Rattle.tl_ast.specs.declared.tree.TestOp.TheVariants.{Add}
 use Rattle.tl_ast.specs.declared.tree.TestStmt.{TestStmt}
-use Rattle.tl_ast.specs.declared.tree.TestStmt.TheVariants.{Poke, Peek, Expect, Step, Fork, Join}
+use Rattle.tl_ast.specs.declared.tree.TestStmt.TheVariants.{Poke, Peek, Expect, Step, Let, Fork, Join}
 use Rattle.tl_check.specs.Checked.{TestFor}
 use Rattle.tl_check.specs.Walk.{test_rule}
 use Rattle.bench_model.specs.Paths.{Path}
@@ -58,9 +58,16 @@ out = codes "out"
 abbrev h : List ℕ
 h = codes "h"
 
+abbrev v : List ℕ
+v = codes "v"
+
 -- `poke a = 255 + 4; poke b = 4; peek out;`
 abbrev pub pokes_and_peek : List TestStmt
 pokes_and_peek = Poke 1 a (Two Add (Num 255) (Num 4)) ∷ poke 2 b 4 ∷ peek 3 out ∷ []
+
+-- `let v = 0; poke b = 4; peek out into v; poke a = v + 1; peek out;`
+abbrev pub reads_back : List TestStmt
+reads_back = Let 1 v (Num 0) ∷ poke 2 b 4 ∷ Peek 3 out (Some v) ∷ Poke 4 a (Two Add (Var v) (Num 1)) ∷ peek 5 out ∷ []
 
 -- `fork h { poke a = 1; } peek out;`
 abbrev pub race : List TestStmt
@@ -92,6 +99,7 @@ KeepsRules e body = test_rule (test_for e body).test (test_for e body).ports ≡
 
 pub record RuleExamples : Type 0 where
   pub pokes_and_peek : KeepsRules sum pokes_and_peek
+  pub reads_back : KeepsRules sum reads_back
   pub race : KeepsRules sum race
   pub apart : KeepsRules sum apart
   pub joined : KeepsRules sum joined

@@ -6,7 +6,7 @@ ghost use Rattle.bench_model.specs.Log.Kind.{pokes, peeks};
 ghost use Rattle.bench_model.specs.Settle.Ending.{failed, finished};
 ghost use Rattle.bench_model.specs.Orders.{conflict, settles};
 ghost use Rattle.bench_model.specs.Examples.{event, peeked, failed_expect, ends_with};
-ghost use Rattle.bench_setting.specs.Examples.{sum, given, given_by, pokes_and_peek, race, apart, joined, watched, fails, past_register, RuleExamples};
+ghost use Rattle.bench_setting.specs.Examples.{sum, given, given_by, pokes_and_peek, reads_back, race, apart, joined, watched, fails, past_register, RuleExamples};
 
 /// The tests of the examples keep the rules for the ports of their circuits.
 pub fn the_tests_keep_the_rules()
@@ -18,9 +18,15 @@ pub fn poke_then_peek()
     ensures { given sum pokes_and_peek ≡ ends_with (peeked 0 0 [] 2 3 2 7 ∷ []) ((3 ∷ 4 ∷ 7 ∷ []) ∷ []) 4 (settles 0 finished) }
 {}
 
+/// A peek into a variable makes no record, and the number can be poked again.
+pub fn peeked_number_poked()
+    ensures { given sum reads_back ≡ ends_with (peeked 0 0 [] 3 5 2 9 ∷ []) ((5 ∷ 4 ∷ 9 ∷ []) ∷ []) 5 (settles 0 finished) }
+{}
+
 /// The poke of an input conflicts with the peek of an output that depends on it.
 pub fn poke_beside_peek()
-    ensures { given sum race ≡ ends_with (peeked 0 0 [] 1 3 2 0 ∷ []) [] 4 (conflict 0 (event 0 [] 3 (peeks 2)) (event 0 (0 ∷ []) 2 (pokes 0))) }
+    ensures { given sum race
+        ≡ ends_with (peeked 0 0 [] 1 3 2 0 ∷ []) [] 4 (conflict 0 (event 0 [] 3 (peeks 2)) (event 0 (0 ∷ []) 2 (pokes 0))) }
 {}
 
 /// The peek of another input doesn't conflict with it.
@@ -30,7 +36,8 @@ pub fn poke_apart()
 
 /// Another permitted order of that test gives the same run.
 pub fn another_order()
-    ensures { given_by sum apart ([] ∷ (0 ∷ []) ∷ (0 ∷ []) ∷ [] ∷ [] ∷ []) ≡ ends_with (peeked 0 0 [] 1 3 1 0 ∷ []) ((1 ∷ 0 ∷ 1 ∷ []) ∷ []) 5 (settles 0 finished) }
+    ensures { given_by sum apart ([] ∷ (0 ∷ []) ∷ (0 ∷ []) ∷ [] ∷ [] ∷ [])
+        ≡ ends_with (peeked 0 0 [] 1 3 1 0 ∷ []) ((1 ∷ 0 ∷ 1 ∷ []) ∷ []) 5 (settles 0 finished) }
 {}
 
 /// What a child does comes before the acts of its parent after the join.

@@ -8,4 +8,4 @@ use Rattle.bench_setting.proofs.examples.another_order.Goals as goal
 
 pub returns : goal.returns
 unfolding child is_path
-returns c = order_computed sum sum_circuit of_sum apart apart_laid.body apart_laid.is ([] ∷ (0 ∷ []) ∷ (0 ∷ []) ∷ [] ∷ [] ∷ [])
+returns c = order_computed sum sum_circuit of_sum apart apart_laid ([] ∷ (0 ∷ []) ∷ (0 ∷ []) ∷ [] ∷ [] ∷ [])

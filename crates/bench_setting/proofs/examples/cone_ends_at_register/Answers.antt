@@ -8,4 +8,4 @@ use Rattle.bench_setting.proofs.examples.cone_ends_at_register.Goals as goal
 
 pub returns : goal.returns
 unfolding child is_path
-returns c = computed delay delay_circuit of_delay past_register past_register_laid.body past_register_laid.is
+returns c = computed delay delay_circuit of_delay past_register past_register_laid

@@ -7,4 +7,4 @@ use Rattle.bench_setting.proofs.examples.failure_goes_on.Goals as goal
 
 pub returns : goal.returns
 unfolding child is_path
-returns c = computed sum sum_circuit of_sum fails fails_laid.body fails_laid.is
+returns c = computed sum sum_circuit of_sum fails fails_laid

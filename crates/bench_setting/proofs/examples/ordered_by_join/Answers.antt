@@ -9,4 +9,4 @@ use Rattle.bench_setting.proofs.examples.ordered_by_join.Goals as goal
 
 pub returns : goal.returns
 unfolding child is_path
-returns c = computed sum sum_circuit of_sum joined joined_laid.body joined_laid.is ∙ simp looked_up refl
+returns c = computed sum sum_circuit of_sum joined joined_laid ∙ simp looked_up refl

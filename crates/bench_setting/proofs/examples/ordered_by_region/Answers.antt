@@ -7,4 +7,4 @@ use Rattle.bench_setting.proofs.examples.ordered_by_region.Goals as goal
 
 pub returns : goal.returns
 unfolding child is_path
-returns c = computed sum sum_circuit of_sum watched watched_laid.body watched_laid.is
+returns c = computed sum sum_circuit of_sum watched watched_laid

@@ -7,4 +7,4 @@ use Rattle.bench_setting.proofs.examples.poke_apart.Goals as goal
 
 pub returns : goal.returns
 unfolding child is_path
-returns c = computed sum sum_circuit of_sum apart apart_laid.body apart_laid.is
+returns c = computed sum sum_circuit of_sum apart apart_laid

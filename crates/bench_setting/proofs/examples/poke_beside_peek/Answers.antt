@@ -7,4 +7,4 @@ use Rattle.bench_setting.proofs.examples.poke_beside_peek.Goals as goal
 
 pub returns : goal.returns
 unfolding child is_path
-returns c = computed sum sum_circuit of_sum race race_laid.body race_laid.is
+returns c = computed sum sum_circuit of_sum race race_laid

@@ -7,4 +7,4 @@ use Rattle.bench_setting.proofs.examples.poke_then_peek.Goals as goal
 
 pub returns : goal.returns
 unfolding child is_path
-returns c = computed sum sum_circuit of_sum pokes_and_peek pokes_and_peek_laid.body pokes_and_peek_laid.is
+returns c = computed sum sum_circuit of_sum pokes_and_peek pokes_and_peek_laid
