@@ -27,7 +27,7 @@ pub record Circuit : Type 0 where
   pub edge : (inputs registers : List ℕ) → List ℕ
   pub cone : (signal input : ℕ) → Bool
 
--- an elaborated circuit: the settled numbers, the registers' next values, and the inputs of which a signal is a function within a cycle
+-- an elaborated circuit: its settled numbers, its registers' next values, and its cones
 abbrev pub circuit_of : Elab → Circuit
 circuit_of e = record { number = number_at e; edge = registers_after e; cone = in_cone e }
 
