@@ -1,0 +1,5 @@
+pub mod Apart
+pub mod SettingFacts
+pub mod Computed
+pub mod Small
+pub mod Bodies

@@ -1,0 +1,7 @@
+use Rattle.bench_model.proofs.TwoMoves.{alike_worlds}
+use Rattle.bench_setting.specs.Settings.{setting_of}
+use Rattle.bench_setting.proofs.SettingFacts.{setting_laws}
+use Rattle.bench_setting.proofs.laws.alike.Goals as goal
+
+pub returns : goal.returns
+returns c = λ e net k limits r rule. alike_worlds (setting_of e k limits) (setting_laws e net k limits r rule)
