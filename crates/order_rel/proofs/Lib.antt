@@ -1,0 +1,6 @@
+pub mod LinkFacts
+pub mod ClimbFacts
+pub mod PathTests
+pub mod ToldFacts
+pub mod ClimbCases
+pub mod OrderedFacts
