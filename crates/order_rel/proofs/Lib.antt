@@ -4,3 +4,4 @@ pub mod PathTests
 pub mod ToldFacts
 pub mod ClimbCases
 pub mod OrderedFacts
+pub mod FormedTests

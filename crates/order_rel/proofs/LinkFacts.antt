@@ -20,7 +20,7 @@ pub joined_is : (o : Option Path) (p : Path) → names_joined o p ≡ true → o
 joined_is None p h = absurd (cc)
 joined_is (Some c) p h = ap Some (is_path_same c p h)
 
-end_is : (k : Kind) → is_end k ≡ true → k ≡ ends
+pub end_is : (k : Kind) → is_end k ≡ true → k ≡ ends
 end_is ends h = refl
 end_is _ h = absurd (cc)
 
