@@ -4,6 +4,7 @@ use Rattle.bench_model.specs.Log.{Event}
 use Rattle.bench_model.specs.Conflict.{Conflict, IsFirstPair, IsFree}
 use Rattle.bench_model.proofs.ScanFacts.{place_below}
 use Rattle.conflict_core.specs.Conflicts.{IsEarliest, Earliest}
+use Rattle.conflict_core.proofs.PlaceFacts.{at_most}
 
 module _ (cone : ℕ → ℕ → Bool) (log : List Event) where
   -- no two events below the place n conflict
@@ -19,9 +20,6 @@ module _ (cone : ℕ → ℕ → Bool) (log : List Event) where
     where
       last : (l n : ℕ) → l < n + 1 → (l ≡ n) ⊎ (l < n)
       last l n h = grind arith
-
-  at_most : (i k : ℕ) → (k < i → ⊥) → i ≤ k
-  at_most i k h = grind arith
 
   pub first_of : (i j : ℕ) → FreeBelow j → IsEarliest cone log j i → IsFirstPair cone log i j
   first_of i j f e = record {
@@ -43,7 +41,7 @@ module _ (cone : ℕ → ℕ → Bool) (log : List Event) where
 
   pub found_pair : (i j : ℕ) → IsFirstPair cone log i j → (k l : ℕ) → (◌≡◌ {A = Option (ℕ × ℕ)} (Some (i, j)) (Some (k, l))) ↔ IsFirstPair cone log k l
   found_pair i j p k l = (
-    λ s. let a : i ≡ k = cc in let b : j ≡ l = cc in subst (λ z. IsFirstPair cone log k z) b (subst (λ z. IsFirstPair cone log z j) a p),
+    λ s. let t : ◌≡◌ {A = ℕ × ℕ} (i, j) (k, l) = cc in subst (λ z. IsFirstPair cone log k z) (ap (λ x. x.1) t) (subst (λ z. IsFirstPair cone log z j) (ap (λ x. x.0) t) p),
     λ q. let s = one_pair i j k l p q in ap₂ (λ x y. Some (x, y)) s.0 s.1,
   )
 

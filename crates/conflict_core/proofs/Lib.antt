@@ -1,2 +1,3 @@
 pub mod PlaceFacts
 pub mod FirstFacts
+pub mod CodeFacts

@@ -7,6 +7,9 @@ use Rattle.bench_model.proofs.ScanFacts.{ConflictAt, LeadsAny, LeastIs, least_is
 use Rattle.bench_model.proofs.ConflictFacts.{place_one, before_rises, conflict_new, conflict_newest}
 use Rattle.conflict_core.specs.Conflicts.{IsEarliest, Earliest, least_with_newest}
 
+pub at_most : (i k : ℕ) → (k < i → ⊥) → i ≤ k
+at_most i k h = grind arith
+
 module _ (cone : ℕ → ℕ → Bool) (log : List Event) where
   -- ---- of two places
   pub conflict_of : (i j : ℕ) (d e : Event) → HasAt log i d → HasAt log j e → i < j → clash cone d.kind e.kind ≡ true → (IsBefore log i j → ⊥) → Conflict cone log i j
@@ -26,7 +29,6 @@ module _ (cone : ℕ → ℕ → Bool) (log : List Event) where
       subst (λ (x : Event). clash cone x.kind e.kind ≡ true) (place_one log i c.first d c.first_at hd)
       (subst (λ (y : Event). clash cone c.first.kind y.kind ≡ true) (place_one log j c.second e c.second_at he) c.clashes)
 
-
 -- ---- of the newest event
 module _ (cone : ℕ → ℕ → Bool) (e : Event) (log : List Event) where
   one_past : (d : Event) → leads_to_any d (e ∷ []) ≡ true → link d e ≡ true
@@ -43,9 +45,6 @@ module _ (cone : ℕ → ℕ → Bool) (e : Event) (log : List Event) where
 
   to_scan : (i : ℕ) → i < length log → Conflict cone (e ∷ log) i (length log) → ConflictAt cone e log (e ∷ []) i
   to_scan i n c = let y = conflict_newest cone e log i n c in record { event = y.0; at = y.1; clashes = y.2; not_led = λ l. y.3 (led_back i l) }
-
-  at_most : (i k : ℕ) → (k < i → ⊥) → i ≤ k
-  at_most i k h = grind arith
 
   earliest_is : (o : Option ℕ) → LeastIs cone e log (e ∷ []) o → Earliest cone (e ∷ log) (length log) o
   earliest_is None h = λ k n c. h k (to_scan k n c)

@@ -160,13 +160,13 @@ module _ (log : List Event) (e : Event) (t : After log e) where
     path_new = λ i d c h k p. below_new i d c [] h k (p ∙ sym (append-nil c));
     below_new = λ i d c k q h l p. below_new i d c (k ∷ q) h l p;
     alive = λ i d h p l. not_both (is_path d.path e.path && is_end d.kind) (beside i d h).alive
-    (and_from (is_path d.path e.path) (is_end d.kind) (subst (λ z. is_path d.path z ≡ true) p (is_path_refl d.path)) (ap is_end l));
+        (and_from (is_path d.path e.path) (is_end d.kind) (subst (λ z. is_path d.path z ≡ true) p (is_path_refl d.path)) (ap is_end l));
     joins_child = λ c j. child_is c e.path (parent c) refl (subst (λ z. joins_own e.path z ≡ true) j t.own_join);
     joined_ended = λ i d h j. ended e.joined refl t.ended i d h j;
     not_joined = λ i d h j. not_both (names_joined d.joined e.path) (beside i d h).not_joined (is_joined d.joined e.path j);
     forked = λ i d c k q h l p. forked i d c (k ∷ q) h l p;
     one_region = λ i d h p. eqb-true d.region e.region
-    (implied (is_path d.path e.path) (nat_eq d.region e.region) (beside i d h).one_region (subst (λ z. is_path d.path z ≡ true) p (is_path_refl d.path)));
+        (implied (is_path d.path e.path) (nat_eq d.region e.region) (beside i d h).one_region (subst (λ z. is_path d.path z ≡ true) p (is_path_refl d.path)));
     rises = λ i d h. leb-true d.region e.region (beside i d h).rises;
   }
     where
