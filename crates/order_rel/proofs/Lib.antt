@@ -5,3 +5,4 @@ pub mod ToldFacts
 pub mod ClimbCases
 pub mod OrderedFacts
 pub mod FormedTests
+pub mod ExampleFacts

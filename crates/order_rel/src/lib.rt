@@ -7,7 +7,11 @@
 #![tactic(auto)]
 
 mod event;
+mod examples;
 mod order;
+#[cfg(test)]
+mod tests;
 
 pub use event::{Event, Kind};
+pub use examples::the_orders_work_out;
 pub use order::ordered;
