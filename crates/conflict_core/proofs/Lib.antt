@@ -1,3 +1,4 @@
 pub mod PlaceFacts
 pub mod FirstFacts
 pub mod CodeFacts
+pub mod ExampleFacts

@@ -7,5 +7,7 @@
 #![tactic(auto)]
 
 mod conflict;
+mod examples;
 
 pub use conflict::{conflict_with_last, first_conflict};
+pub use examples::the_conflicts_work_out;
