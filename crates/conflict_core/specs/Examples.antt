@@ -20,14 +20,14 @@ use Rattle.conflict_core.specs.Conflicts.{cone_of, least_with_newest}
 abbrev s : ℕ → Signal
 s k = record { 0 = k }
 
-abbrev bit : Role → SignalInfo
-bit role = record { name = []; role = role; signed = false; width = Some 1; line = 1 }
+abbrev pub one_bit : Role → SignalInfo
+one_bit role = record { name = []; role = role; signed = false; width = Some 1; line = 1 }
 
 -- the inputs 0 and 1; the output 2 is the input 0
 abbrev pub wire : Net
 wire = record {
   own = 3;
-  signals = bit InputRole ∷ bit InputRole ∷ bit OutputRole ∷ [];
+  signals = one_bit InputRole ∷ one_bit InputRole ∷ one_bit OutputRole ∷ [];
   equations = Input ∷ Input ∷ Comb (Take (Some (Read (s 0))) ∷ []) ∷ [];
 }
 

@@ -8,6 +8,8 @@
 
 mod conflict;
 mod examples;
+#[cfg(test)]
+mod tests;
 
 pub use conflict::{conflict_with_last, first_conflict};
 pub use examples::the_conflicts_work_out;
