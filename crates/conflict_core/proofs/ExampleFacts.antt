@@ -1,5 +1,5 @@
 -- The worked examples.
-use Rattle.std.proofs.Common.{◌≡◌, ℕ, ◌<◌, ◌≤◌, List, [], ◌∷◌, length, Bool, Option, Some, None, refl, subst, arith}
+use Rattle.std.proofs.Common.{◌≡◌, ℕ, List, ◌∷◌, length, Bool, Some, None, refl, subst}
 use Rattle.bench_model.specs.Paths.{is_path}
 use Rattle.bench_model.specs.Log as m
 use Rattle.bench_model.specs.Log.{least_place}

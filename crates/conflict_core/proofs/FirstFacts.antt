@@ -1,5 +1,5 @@
 -- The first pair of a log.
-use Rattle.std.proofs.Common.{◌≡◌, ◌⊎◌, ⊎_elim, inl, inr, ℕ, ◌<◌, ◌≤◌, ◌+◌, List, length, Bool, Option, Some, None, refl, sym, ap, ap₂, subst, ◌∙◌, arith, ◌↔◌}
+use Rattle.std.proofs.Common.{◌≡◌, ◌⊎◌, ⊎_elim, ℕ, ◌<◌, ◌≤◌, ◌+◌, List, length, Bool, Option, Some, None, sym, ap, ap₂, subst, arith, ◌↔◌}
 use Rattle.bench_model.specs.Log.{Event}
 use Rattle.bench_model.specs.Conflict.{Conflict, IsFirstPair, IsFree}
 use Rattle.bench_model.proofs.ScanFacts.{place_below}

@@ -1,11 +1,11 @@
 -- Conflicts of one event with earlier ones.
-use Rattle.std.proofs.Common.{◌≡◌, ◌⊎◌, ⊎_elim, inl, inr, ℕ, suc, ◌<◌, ◌≤◌, ◌-◌, List, [], ◌∷◌, length, Bool, true, false, ◌||◌, Option, Some, None, refl, sym, ap, subst, ◌∙◌, arith, ◌↔◌}
+use Rattle.std.proofs.Common.{◌≡◌, ⊎_elim, ℕ, ◌<◌, ◌≤◌, ◌-◌, List, [], ◌∷◌, length, Bool, true, false, ◌||◌, Option, Some, None, refl, ap, subst, arith}
 use Rattle.std.proofs.lemmas.Bool.{or_cases}
 use Rattle.bench_model.specs.Log.{Event, LeadsTo, place, link, clash, leads_to_any, least_place}
 use Rattle.bench_model.specs.Conflict.{HasAt, IsBefore, Conflict}
 use Rattle.bench_model.proofs.ScanFacts.{ConflictAt, LeadsAny, LeastIs, least_is, place_below, place_new}
 use Rattle.bench_model.proofs.ConflictFacts.{place_one, before_rises, conflict_new, conflict_newest}
-use Rattle.conflict_core.specs.Conflicts.{IsEarliest, Earliest, least_with_newest}
+use Rattle.conflict_core.specs.Conflicts.{Earliest, least_with_newest}
 
 pub at_most : (i k : ℕ) → (k < i → ⊥) → i ≤ k
 at_most i k h = grind arith

@@ -1,7 +1,6 @@
 -- The wire of the worked examples is a net that has levels and cones.
-use Rattle.std.proofs.Common.{◌≡◌, ℕ, suc, zero, ◌<◌, ◌≤◌, List, [], ◌∷◌, Bool, true, false, ◌||◌, nat_eq, refl, sym, ◌∙◌, arith, ⊎_elim, eqb-true}
+use Rattle.std.proofs.Common.{◌≡◌, ℕ, suc, zero, ◌<◌, ◌≤◌, true, false, ◌||◌, nat_eq, refl, sym, ◌∙◌, arith, ⊎_elim, eqb-true}
 use Rattle.std.proofs.lemmas.Bool.{or_cases}
-use Rattle.net_core.specs.declared.tree.Net.{Net}
 use Rattle.net_core.specs.Nets.{net_reads}
 use Rattle.net_core.proofs.Trees.{at_read}
 use Rattle.net_graph.specs.NetGraphs.{IsNumbered}

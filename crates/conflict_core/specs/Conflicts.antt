@@ -1,5 +1,5 @@
 -- Conflicts over a table of cones.
-use Rattle.std.specs.Prelude.{◌≡◌, ℕ, ◌<◌, ◌≤◌, List, [], ◌∷◌, Bool, Option, Some, None}
+use Rattle.std.specs.Prelude.{ℕ, ◌<◌, ◌≤◌, List, [], ◌∷◌, Bool, Option, Some, None}
 use Rattle.net_graph.specs.declared.cones.Cones.{Cones}
 use Rattle.net_graph.specs.Reaching.{in_row_of}
 use Rattle.bench_model.specs.Log.{Event, least_place}

@@ -17,7 +17,7 @@ fn touched(kind: &Kind, input: Signal, cones: &Cones) -> bool
     ensures { result ≡ touches (cone_of cones.now) (kind_told kind.now) input.0 }
 {
     match kind {
-        Kind::Poke(port) => port.0 == input.0,
+        Kind::Poke(port) => *port == input,
         Kind::Peek(signal) | Kind::Expect(signal) => cones.has(*signal, input),
         _ => false,
     }
@@ -67,7 +67,7 @@ fn earliest(log: &[Event], last: usize, cones: &Cones) -> Option<usize>
 /// The place of the earliest event that the newest event of the log conflicts with; `None` exactly where it conflicts with none.
 ///
 /// It takes no memory. Each earlier event takes constant time, and each whose access clashes with the newest one's a search of the
-/// log as `ordered` makes it.
+/// log as `ordered` makes it: the time is linear in the length of the log where few accesses clash, and quadratic at worst.
 pub fn conflict_with_last(log: &[Event], cones: &Cones) -> Option<usize>
     requires { Formed (log_of log.now) }
     ensures value { result ≡ least_with_newest (cone_of cones.now) (log_of log.now) }
@@ -82,8 +82,8 @@ pub fn conflict_with_last(log: &[Event], cones: &Cones) -> Option<usize>
 /// The first pair of events that conflict, by their places: the second is the least place whose event conflicts with an earlier one,
 /// and the first the least place that it conflicts with. `None` exactly where no two events conflict.
 ///
-/// It takes no memory. The time is quadratic in the length of the log; each two events whose accesses clash take a search of the log
-/// besides, as `ordered` makes it.
+/// It takes no memory. The time is quadratic in the length of the log where few accesses clash. Each two events whose accesses clash
+/// take a search of the log besides, as `ordered` makes it, so it is cubic at worst.
 pub fn first_conflict(log: &[Event], cones: &Cones) -> Option<(usize, usize)>
     requires { Formed (log_of log.now) }
     ensures pair { (i : ℕ) (j : ℕ) → (result ≡ Some (i, j)) ↔ IsFirstPair (cone_of cones.now) (log_of log.now) i j }

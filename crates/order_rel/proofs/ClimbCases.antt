@@ -1,5 +1,5 @@
 -- Each step of a climb, as the code takes it.
-use Rattle.std.proofs.Common.{◌≡◌, ℕ, suc, ◌+◌, ◌≤◌, List, [], ◌∷◌, ◌++◌, length, take, Option, Some, None, refl, sym, ap, subst, ◌∙◌, arith, ◌↔◌, length-append, IsSomeAnd}
+use Rattle.std.proofs.Common.{◌≡◌, ℕ, suc, ◌+◌, ◌≤◌, [], ◌∷◌, ◌++◌, length, take, Option, Some, None, refl, sym, ap, subst, ◌∙◌, arith, ◌↔◌, length-append, IsSomeAnd}
 use Rattle.std.proofs.lemmas.List.{append-nil, append_cancel_left}
 use Rattle.bench_model.specs.Paths.{Path, child}
 use Rattle.bench_model.proofs.PathFacts.{child_is, child_same}

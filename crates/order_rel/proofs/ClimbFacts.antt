@@ -1,13 +1,13 @@
 -- A climb leads from one event to another exactly where a chain of links does.
-use Rattle.std.proofs.Common.{◌≡◌, ◌⊎◌, ⊎_elim, inl, inr, ℕ, zero, suc, ◌<◌, ◌≤◌, ◌+◌, List, [], ◌∷◌, ◌++◌, length, true, Option, Some, refl, sym, ap, subst, ◌∙◌, arith, ◌↔◌, append_assoc, length-append}
+use Rattle.std.proofs.Common.{◌≡◌, ◌⊎◌, ⊎_elim, inl, inr, ℕ, zero, suc, ◌<◌, ◌≤◌, List, [], ◌∷◌, ◌++◌, length, true, Option, Some, refl, sym, ap, subst, ◌∙◌, arith, ◌↔◌, append_assoc, length-append}
 use Rattle.std.proofs.lemmas.List.{append-nil}
 use Rattle.bench_model.specs.Paths.{Path, child}
 use Rattle.bench_model.specs.Log.{Event, link}
-use Rattle.bench_model.specs.Log.Kind.{forks, ends}
+use Rattle.bench_model.specs.Log.Kind.{forks}
 use Rattle.bench_model.specs.Conflict.{HasAt, IsBefore}
 use Rattle.bench_model.specs.Formed.{HasFork, HasEnd, Formed, Chain, one, more}
-use Rattle.bench_model.proofs.PathFacts.{child_is, child_same, child_below, below_child, not_own_child, BelowChild, first, deeper, below_a_child}
-use Rattle.bench_model.proofs.ConflictFacts.{place_one, before_rises}
+use Rattle.bench_model.proofs.PathFacts.{child_is, child_same, below_child, not_own_child, BelowChild, first, deeper, below_a_child}
+use Rattle.bench_model.proofs.ConflictFacts.{place_one}
 use Rattle.bench_model.proofs.FormedBefore.{link_rises, link_before, before_trans, before_anywhere}
 use Rattle.order_rel.specs.Climbing.{PlacesOf, Climbs, arrived, down, up}
 use Rattle.order_rel.proofs.LinkFacts.{Linked, same_thread, by_fork, by_end, by_region, linked, link_thread, link_fork, link_end, link_region}

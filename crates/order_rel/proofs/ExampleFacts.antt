@@ -1,6 +1,5 @@
 -- The worked examples.
-use Rattle.std.proofs.Common.{◌≡◌, ℕ, ◌<◌, ◌≤◌, List, [], ◌∷◌, ◌++◌, Option, Some, None, refl, subst, arith, get_or}
-use Rattle.tb_base.specs.declared.path.Region.TheVariants.{Main, Monitor}
+use Rattle.std.proofs.Common.{◌≡◌, ℕ, ◌≤◌, List, [], ◌∷◌, ◌++◌, Some, None, refl, subst, arith, get_or}
 use Rattle.bench_model.specs.Paths.{is_path, child}
 use Rattle.bench_model.specs.Conflict.{IsBefore}
 use Rattle.bench_model.specs.Formed.{Formed}

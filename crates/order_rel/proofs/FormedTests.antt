@@ -1,10 +1,10 @@
 -- A test that a log is formed, which computes: for worked examples.
-use Rattle.std.proofs.Common.{◌≡◌, ◌⊎◌, ⊎_elim, inl, inr, ℕ, suc, ◌<◌, ◌≤◌, List, [], ◌∷◌, ◌++◌, length, Bool, true, false, not, ◌&&◌, ◌||◌, nat_eq, nat_le, Option, Some, None, refl, sym, ap, subst, ◌∙◌, arith, eqb-true, leb-true, eq-eqb}
+use Rattle.std.proofs.Common.{◌≡◌, ⊎_elim, inl, inr, ℕ, List, [], ◌∷◌, ◌++◌, length, Bool, true, false, not, ◌&&◌, ◌||◌, nat_eq, nat_le, Option, Some, None, refl, sym, ap, subst, ◌∙◌, eqb-true, leb-true, eq-eqb}
 use Rattle.std.proofs.lemmas.List.{append-nil}
 use Rattle.std.proofs.lemmas.Bool.{and_parts, and_from, or_cases, or_left, or_right}
 use Rattle.bench_model.specs.Paths.{Path, is_path, child, parent}
 use Rattle.bench_model.specs.Log.{Kind, Event, is_fork_of, is_end, names_joined}
-use Rattle.bench_model.specs.Log.Kind.{forks, ends}
+use Rattle.bench_model.specs.Log.Kind.{forks}
 use Rattle.bench_model.specs.Conflict.{HasAt}
 use Rattle.bench_model.specs.Formed.{HasFork, Formed}
 use Rattle.bench_model.proofs.PathFacts.{is_path_refl, is_path_same, child_of_parent}

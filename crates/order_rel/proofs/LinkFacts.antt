@@ -1,5 +1,5 @@
 -- What the four links say.
-use Rattle.std.proofs.Common.{◌≡◌, ⊎_elim, ℕ, ◌<◌, Bool, true, false, ◌&&◌, ◌||◌, nat_lt, Option, Some, None, refl, sym, ap, subst, ◌∙◌, ltb-true}
+use Rattle.std.proofs.Common.{◌≡◌, ⊎_elim, ◌<◌, true, ◌&&◌, nat_lt, Option, Some, None, refl, ap, subst, ◌∙◌, ltb-true}
 use Rattle.std.proofs.lemmas.Bool.{or_left, or_right, or_cases, and_from, and_parts, lt-ltb}
 use Rattle.bench_model.specs.Paths.{Path, is_path}
 use Rattle.bench_model.specs.Log.{Kind, Event, link, is_fork_of, is_end, names_joined}

@@ -1,5 +1,5 @@
 -- What `ordered` answers, over the events of the code.
-use Rattle.std.proofs.Common.{◌≡◌, ℕ, ◌<◌, List, length, refl, sym, ap, subst, ◌∙◌, arith, ◌↔◌, get_or}
+use Rattle.std.proofs.Common.{◌≡◌, ℕ, ◌<◌, List, length, refl, sym, ap, subst, arith, ◌↔◌, get_or}
 use Rattle.tb_base.specs.declared.path.Region.{Region}
 use Rattle.tb_base.specs.declared.path.Region.TheVariants.{Main, Monitor}
 use Rattle.bench_model.specs.Paths.{Path}

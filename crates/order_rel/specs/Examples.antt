@@ -1,9 +1,7 @@
 -- Logs that a reader can follow.
-use Rattle.std.specs.Prelude.{◌≡◌, ℕ, List, [], ◌∷◌, Option, Some, None}
-use Rattle.tb_base.specs.declared.path.Region.{Region}
+use Rattle.std.specs.Prelude.{◌≡◌, ℕ, List, [], ◌∷◌, Some, None}
 use Rattle.tb_base.specs.declared.path.Region.TheVariants.{Main, Monitor}
 use Rattle.net_core.specs.declared.ports.Signal.{Signal}
-use Rattle.bench_model.specs.Log.{event_at}
 use Rattle.bench_model.specs.Conflict.{IsBefore}
 use Rattle.bench_model.specs.Formed.{Formed}
 use Rattle.order_rel.specs.declared.event.Event.{Event}

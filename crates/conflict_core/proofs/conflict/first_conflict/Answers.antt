@@ -1,4 +1,4 @@
-use Rattle.std.proofs.Common.{◌≡◌, ◌≤◌, length, None, refl, subst, arith}
+use Rattle.std.proofs.Common.{◌≡◌, length, None, refl, subst, arith}
 use Rattle.order_rel.specs.Logs.{log_of}
 use Rattle.order_rel.proofs.ToldFacts.{told_length}
 use Rattle.conflict_core.specs.Conflicts.{cone_of, Earliest}
