@@ -1,0 +1,5 @@
+pub mod PlaceFacts
+pub mod FirstFacts
+pub mod CodeFacts
+pub mod ExampleFacts
+pub mod WireFacts

@@ -1,0 +1,8 @@
+use Rattle.std.proofs.Common.{subst, sym}
+use Rattle.bench_model.specs.Formed.{Formed}
+use Rattle.order_rel.specs.Logs.{log_of}
+use Rattle.conflict_core.proofs.ExampleFacts.{two_pokes_formed}
+use Rattle.conflict_core.proofs.tests.the_earliest_access_is_named.Goals as goal
+
+pub answers-requires : goal.answers-requires
+answers-requires g c = subst (λ log. Formed (log_of log)) (sym c.two_pokes_log-log.ensures) two_pokes_formed

@@ -1,0 +1,3 @@
+pub mod Logs
+pub mod Climbing
+pub mod Examples
