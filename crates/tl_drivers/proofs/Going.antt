@@ -1,5 +1,5 @@
 -- Statements that keep the rules, one at a time, and what is known behind them.
-use Rattle.std.proofs.Common.{◌≡◌, ℕ, ◌-◌, ◌^◌, List, [], ◌∷◌, ◌++◌, map, Bool, true, false, not, cond, ◌||◌, ◌&&◌, nat_lt, nat_eq, Option, Some, None, Ok, Err, refl, sym, ap, subst, ◌∙◌}
+use Rattle.std.proofs.Common.{◌≡◌, ℕ, ◌-◌, ◌^◌, List, [], ◌∷◌, ◌++◌, map, Bool, true, false, not, cond, ◌||◌, ◌&&◌, nat_lt, nat_eq, Option, Some, None, Ok, Err, refl, sym, ap, subst, ◌∙◌, eqb-true}
 use Rattle.std.specs.Str.{bytes_eq}
 use Rattle.tb_base.specs.declared.path.Region.{Region}
 use Rattle.tb_base.specs.declared.path.Region.TheVariants.{Main, Monitor}
@@ -49,7 +49,7 @@ not_true false e = refl
 not_true true e = absurd cc
 
 one_wide : (n : ℕ) → nat_eq n 1 ≡ true → n ≡ 1
-one_wide n e = grind (arith, nat_tests, e)
+one_wide n e = eqb-true n 1 e
 
 pub bit_there : (input : Bool) (o : Option PortInfo) → is_bit input o ≡ true → Bit input o
 bit_there input None e = absurd cc

@@ -1,3 +1,10 @@
 mod Lists
-pub mod Sizes
-pub mod Undriven
+mod Sizes
+mod Undriven
+mod Names
+mod Gives
+mod Judging
+mod Going
+mod RowsGo
+mod Keeping
+mod Ending

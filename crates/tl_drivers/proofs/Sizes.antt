@@ -17,10 +17,10 @@ use Rattle.tl_drivers.specs.Core.{joined, core_level, core, core_body, core_of}
 use Rattle.tl_drivers.proofs.Lists.{sum_first, sum_both, greatest_both}
 
 -- statements that are so many at most, nested at most so deep
-pub record Small (count blocks forks : ℕ) (ss : List TestStmt) : Type 0 where
-  pub count : sum (map statements ss) ≤ count
-  pub blocks : greatest (map nested_blocks ss) ≤ blocks
-  pub forks : greatest (map nested_forks ss) ≤ forks
+pub record Small (most deep forked : ℕ) (ss : List TestStmt) : Type 0 where
+  pub count : sum (map statements ss) ≤ most
+  pub blocks : greatest (map nested_blocks ss) ≤ deep
+  pub forks : greatest (map nested_forks ss) ≤ forked
 
 small_none : (b f : ℕ) → Small 0 b f []
 small_none b f = record { count = omega arith; blocks = omega arith; forks = omega arith }

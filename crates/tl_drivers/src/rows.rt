@@ -103,29 +103,29 @@ fn watch(alloc: Global, line: u32, body: Vec<TestStmt>) -> Result<TestStmt, Memo
 /// Puts `poke signal = 1; fork monitor $d { .. } joinstep $d; poke signal = 0;`
 fn put_handshake(
     alloc: Global,
-    core: &mut Vec<TestStmt>,
+    out: &mut Vec<TestStmt>,
     line: u32,
     signal: Name,
     body: Vec<TestStmt>,
 ) -> Result<(), Memory>
     ensures {
         OnOk result (
-            core.new.items
-            ≡ core.old.items ++ Poke line signal (Num 1) ∷ watch line body.items ∷ JoinStep line drivers_handle ∷ Poke line signal (Num 0) ∷ []
+            out.new.items
+            ≡ out.old.items ++ Poke line signal (Num 1) ∷ watch line body.items ∷ JoinStep line drivers_handle ∷ Poke line signal (Num 0) ∷ []
         )
     }
 {
-    core.push(TestStmt::Poke {
+    out.push(TestStmt::Poke {
         line,
         port: signal.copy(alloc)?,
         value: TestExpr::Num(1),
     })?;
-    core.push(watch(alloc, line, body)?)?;
-    core.push(TestStmt::JoinStep {
+    out.push(watch(alloc, line, body)?)?;
+    out.push(TestStmt::JoinStep {
         line,
         handle: own_handle(alloc)?,
     })?;
-    core.push(TestStmt::Poke {
+    out.push(TestStmt::Poke {
         line,
         port: signal,
         value: TestExpr::Num(0),
@@ -136,33 +136,33 @@ fn put_handshake(
 /// Puts the row of `enqueue port value`.
 fn put_enqueue(
     alloc: Global,
-    core: &mut Vec<TestStmt>,
+    out: &mut Vec<TestStmt>,
     line: u32,
     port: &Name,
     value: TestExpr,
 ) -> Result<(), Memory>
-    ensures { OnOk result (core.new.items ≡ core.old.items ++ enqueue line port.now value) }
+    ensures { OnOk result (out.new.items ≡ out.old.items ++ enqueue line port.now value) }
 {
-    core.push(TestStmt::Poke {
+    out.push(TestStmt::Poke {
         line,
         port: part(alloc, port, b".bits")?,
         value,
     })?;
     let watching = until_set(alloc, line, part(alloc, port, b".ready")?)?;
-    put_handshake(alloc, core, line, part(alloc, port, b".valid")?, watching)
+    put_handshake(alloc, out, line, part(alloc, port, b".valid")?, watching)
 }
 
 /// Puts the row of `enqueueNow port value`.
 fn put_enqueue_now(
     alloc: Global,
-    core: &mut Vec<TestStmt>,
+    out: &mut Vec<TestStmt>,
     line: u32,
     port: &Name,
     value: TestExpr,
 ) -> Result<(), Memory>
-    ensures { OnOk result (core.new.items ≡ core.old.items ++ enqueue_now line port.now value) }
+    ensures { OnOk result (out.new.items ≡ out.old.items ++ enqueue_now line port.now value) }
 {
-    core.push(TestStmt::Poke {
+    out.push(TestStmt::Poke {
         line,
         port: part(alloc, port, b".bits")?,
         value,
@@ -173,18 +173,18 @@ fn put_enqueue_now(
         port: part(alloc, port, b".ready")?,
         value: TestExpr::Num(1),
     })?;
-    put_handshake(alloc, core, line, part(alloc, port, b".valid")?, watching)
+    put_handshake(alloc, out, line, part(alloc, port, b".valid")?, watching)
 }
 
 /// Puts the row of `expectDequeue port value`.
 fn put_expect_dequeue(
     alloc: Global,
-    core: &mut Vec<TestStmt>,
+    out: &mut Vec<TestStmt>,
     line: u32,
     port: &Name,
     value: TestExpr,
 ) -> Result<(), Memory>
-    ensures { OnOk result (core.new.items ≡ core.old.items ++ expect_dequeue line port.now value) }
+    ensures { OnOk result (out.new.items ≡ out.old.items ++ expect_dequeue line port.now value) }
 {
     let mut watching = until_set(alloc, line, part(alloc, port, b".valid")?)?;
     watching.push(TestStmt::Expect {
@@ -192,18 +192,18 @@ fn put_expect_dequeue(
         port: part(alloc, port, b".bits")?,
         value,
     })?;
-    put_handshake(alloc, core, line, part(alloc, port, b".ready")?, watching)
+    put_handshake(alloc, out, line, part(alloc, port, b".ready")?, watching)
 }
 
 /// Puts the row of `expectDequeueNow port value`.
 fn put_expect_dequeue_now(
     alloc: Global,
-    core: &mut Vec<TestStmt>,
+    out: &mut Vec<TestStmt>,
     line: u32,
     port: &Name,
     value: TestExpr,
 ) -> Result<(), Memory>
-    ensures { OnOk result (core.new.items ≡ core.old.items ++ expect_dequeue_now line port.now value) }
+    ensures { OnOk result (out.new.items ≡ out.old.items ++ expect_dequeue_now line port.now value) }
 {
     let mut watching = Vec::new(alloc);
     watching.push(TestStmt::Expect {
@@ -216,17 +216,17 @@ fn put_expect_dequeue_now(
         port: part(alloc, port, b".bits")?,
         value,
     })?;
-    put_handshake(alloc, core, line, part(alloc, port, b".ready")?, watching)
+    put_handshake(alloc, out, line, part(alloc, port, b".ready")?, watching)
 }
 
 /// Puts the row of `expectInvalid port`.
 fn put_expect_invalid(
     alloc: Global,
-    core: &mut Vec<TestStmt>,
+    out: &mut Vec<TestStmt>,
     line: u32,
     port: &Name,
 ) -> Result<(), Memory>
-    ensures { OnOk result (core.new.items ≡ core.old.items ++ expect_invalid line port.now) }
+    ensures { OnOk result (out.new.items ≡ out.old.items ++ expect_invalid line port.now) }
 {
     let mut watching = Vec::new(alloc);
     watching.push(TestStmt::Expect {
@@ -234,22 +234,22 @@ fn put_expect_invalid(
         port: part(alloc, port, b".valid")?,
         value: TestExpr::Num(0),
     })?;
-    core.push(watch(alloc, line, watching)?)?;
+    out.push(watch(alloc, line, watching)?)?;
     Ok(())
 }
 
 /// Puts the row of `enqueue` for each value in turn.
 fn put_enqueue_each(
     alloc: Global,
-    core: &mut Vec<TestStmt>,
+    out: &mut Vec<TestStmt>,
     line: u32,
     port: &Name,
     values: Vec<TestExpr>,
 ) -> Result<(), Memory>
-    ensures { OnOk result (core.new.items ≡ core.old.items ++ flat_map (enqueue line port.now) values.items) }
+    ensures { OnOk result (out.new.items ≡ out.old.items ++ flat_map (enqueue line port.now) values.items) }
 {
     for value in values {
-        put_enqueue(alloc, core, line, port, value)?;
+        put_enqueue(alloc, out, line, port, value)?;
     }
     Ok(())
 }
@@ -257,15 +257,15 @@ fn put_enqueue_each(
 /// Puts the row of `enqueueNow` for each value in turn.
 fn put_enqueue_now_each(
     alloc: Global,
-    core: &mut Vec<TestStmt>,
+    out: &mut Vec<TestStmt>,
     line: u32,
     port: &Name,
     values: Vec<TestExpr>,
 ) -> Result<(), Memory>
-    ensures { OnOk result (core.new.items ≡ core.old.items ++ flat_map (enqueue_now line port.now) values.items) }
+    ensures { OnOk result (out.new.items ≡ out.old.items ++ flat_map (enqueue_now line port.now) values.items) }
 {
     for value in values {
-        put_enqueue_now(alloc, core, line, port, value)?;
+        put_enqueue_now(alloc, out, line, port, value)?;
     }
     Ok(())
 }
@@ -273,15 +273,15 @@ fn put_enqueue_now_each(
 /// Puts the row of `expectDequeue` for each value in turn.
 fn put_expect_dequeue_each(
     alloc: Global,
-    core: &mut Vec<TestStmt>,
+    out: &mut Vec<TestStmt>,
     line: u32,
     port: &Name,
     values: Vec<TestExpr>,
 ) -> Result<(), Memory>
-    ensures { OnOk result (core.new.items ≡ core.old.items ++ flat_map (expect_dequeue line port.now) values.items) }
+    ensures { OnOk result (out.new.items ≡ out.old.items ++ flat_map (expect_dequeue line port.now) values.items) }
 {
     for value in values {
-        put_expect_dequeue(alloc, core, line, port, value)?;
+        put_expect_dequeue(alloc, out, line, port, value)?;
     }
     Ok(())
 }
@@ -289,15 +289,15 @@ fn put_expect_dequeue_each(
 /// Puts the row of `expectDequeueNow` for each value in turn.
 fn put_expect_dequeue_now_each(
     alloc: Global,
-    core: &mut Vec<TestStmt>,
+    out: &mut Vec<TestStmt>,
     line: u32,
     port: &Name,
     values: Vec<TestExpr>,
 ) -> Result<(), Memory>
-    ensures { OnOk result (core.new.items ≡ core.old.items ++ flat_map (expect_dequeue_now line port.now) values.items) }
+    ensures { OnOk result (out.new.items ≡ out.old.items ++ flat_map (expect_dequeue_now line port.now) values.items) }
 {
     for value in values {
-        put_expect_dequeue_now(alloc, core, line, port, value)?;
+        put_expect_dequeue_now(alloc, out, line, port, value)?;
     }
     Ok(())
 }
@@ -305,42 +305,42 @@ fn put_expect_dequeue_now_each(
 /// Puts the statements that stand for a driver. The time and the memory are linear in its size.
 pub fn put_driver(
     alloc: Global,
-    core: &mut Vec<TestStmt>,
+    out: &mut Vec<TestStmt>,
     line: u32,
     kind: DriverKind,
     port: &Name,
     values: Seq<TestExpr>,
 ) -> Result<(), Memory>
-    ensures { OnOk result (core.new.items ≡ core.old.items ++ driver line kind port.now values) }
+    ensures { OnOk result (out.new.items ≡ out.old.items ++ driver line kind port.now values) }
 {
     let values = values.into_vec();
     match kind {
-        DriverKind::Enqueue => put_enqueue_each(alloc, core, line, port, values),
-        DriverKind::EnqueueNow => put_enqueue_now_each(alloc, core, line, port, values),
-        DriverKind::EnqueueSeq => put_enqueue_each(alloc, core, line, port, values),
-        DriverKind::ExpectDequeue => put_expect_dequeue_each(alloc, core, line, port, values),
-        DriverKind::ExpectDequeueNow => put_expect_dequeue_now_each(alloc, core, line, port, values),
-        DriverKind::ExpectDequeueSeq => put_expect_dequeue_each(alloc, core, line, port, values),
-        DriverKind::ExpectInvalid => put_expect_invalid(alloc, core, line, port),
+        DriverKind::Enqueue => put_enqueue_each(alloc, out, line, port, values),
+        DriverKind::EnqueueNow => put_enqueue_now_each(alloc, out, line, port, values),
+        DriverKind::EnqueueSeq => put_enqueue_each(alloc, out, line, port, values),
+        DriverKind::ExpectDequeue => put_expect_dequeue_each(alloc, out, line, port, values),
+        DriverKind::ExpectDequeueNow => put_expect_dequeue_now_each(alloc, out, line, port, values),
+        DriverKind::ExpectDequeueSeq => put_expect_dequeue_each(alloc, out, line, port, values),
+        DriverKind::ExpectInvalid => put_expect_invalid(alloc, out, line, port),
     }
 }
 
 /// Puts the statements that stand for a reset of so many steps.
 pub fn put_reset(
     alloc: Global,
-    core: &mut Vec<TestStmt>,
+    out: &mut Vec<TestStmt>,
     line: u32,
     count: u128,
 ) -> Result<(), Memory>
-    ensures { OnOk result (core.new.items ≡ core.old.items ++ reset line count) }
+    ensures { OnOk result (out.new.items ≡ out.old.items ++ reset line count) }
 {
-    core.push(TestStmt::Poke {
+    out.push(TestStmt::Poke {
         line,
         port: name(alloc, b"reset")?,
         value: TestExpr::Num(1),
     })?;
-    core.push(TestStmt::Step { line, count })?;
-    core.push(TestStmt::Poke {
+    out.push(TestStmt::Step { line, count })?;
+    out.push(TestStmt::Poke {
         line,
         port: name(alloc, b"reset")?,
         value: TestExpr::Num(0),
