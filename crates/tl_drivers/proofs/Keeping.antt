@@ -43,6 +43,12 @@ after_ok : (f : Known → Outcome) (m : Known) (o : Outcome) → after o f ≡ O
 after_ok f m (Ok i) e = (i, refl, e)
 after_ok f m (Err x) e = absurd cc
 
+-- two blocks, one behind the other
+if_ok : (n m : Known) (taken : Outcome) (other : Known → Outcome) → after (leave n taken) (λ k. leave k (other k)) ≡ Ok m
+    → (i : Known) × (j : Known) × (taken ≡ Ok i) × (other n ≡ Ok j) × (n ≡ m)
+if_ok n m (Ok i) other e = let r = left_ok n m (other n) e in (i, r.0, refl, r.1, r.2)
+if_ok n m (Err x) other e = absurd cc
+
 module _ (ports : Ports) where
   -- the others of a block give the same handles, but for that of drivers
   abbrev SameRest : (Name → Bool) → Region → List Part → Type 0
@@ -125,12 +131,10 @@ module _ (ports : Ports) where
       let takes_other : Bool = some_true (map takes_drivers_handle (stmts_of os)) in
       let taken : List TestStmt = core_body (stmts_of ts) in
       let other : List TestStmt = core_body (stmts_of os) in
-      let f = after_ok (in_block (map part (stmts_of os)) ports g) m (in_block (map part (stmts_of ts)) ports g n) o in
-      let t = left_ok n f.0 (in_turn (map part (stmts_of ts)) ports g n) f.1 in
-      let u = left_ok n m (in_turn (map part (stmts_of os)) ports g n) (ap (in_block (map part (stmts_of os)) ports g) t.2 ∙ f.2) in
-      let c = block_kept ts g vs hs t.0 (or_left takes_taken takes_other own) t.1 ks a in
-      let d = block_kept os g vs hs u.0 (or_right takes_taken takes_other own) u.1 ks a in
-      subst (λ i. Reaches ports g vs ks (stmt.If l e taken other ∷ []) ps i) u.2
+      let t = if_ok n m (in_turn (map part (stmts_of ts)) ports g n) (in_turn (map part (stmts_of os)) ports g) o in
+      let c = block_kept ts g vs hs t.0 (or_left takes_taken takes_other own) t.2 ks a in
+      let d = block_kept os g vs hs t.1 (or_right takes_taken takes_other own) t.3 ks a in
+      subst (λ i. Reaches ports g vs ks (stmt.If l e taken other ∷ []) ps i) t.4
       (stays (stmt.If l e taken other) (S.If l e (map part taken) (map part other)) g vs ks ps n ks (fold-If Part part_level l e taken other) b
       (ap (λ i. after (leave k i) (in_block (map part other) ports g)) c.1 ∙ ap (leave k) d.1) a)
   level_kept (S.While l e ts) g rest vs hs m own b o ks a ps same =

@@ -8,3 +8,4 @@ mod Going
 mod RowsGo
 mod Keeping
 mod Ending
+mod Spelled

@@ -7,6 +7,19 @@
 mod examples;
 mod expansion;
 mod rows;
+#[cfg(test)]
+mod tests;
+
+ghost use Rattle.std.specs.Prelude.{◌≡◌, true, ℕ, List};
+ghost use Rattle.tl_ast.specs.Tests.{spells_test};
+ghost use Rattle.tl_ast.specs.declared.tree.TestText.{TestText};
+ghost use Rattle.tl_drivers.specs.OwnNames.{leaves_drivers_handle};
 
 pub use examples::{the_core_form_works_out, the_rows_work_out};
 pub use expansion::expand;
+
+/// A law: a test that a text spells, as `tl_text::read_test` finds it, leaves the handle `$d` to drivers, as `expand` asks: its names are
+/// words, and no word has a `$`.
+pub fn texts_leave_the_drivers_handle()
+    ensures { (text : List ℕ) (test : TestText) → spells_test text test → leaves_drivers_handle test ≡ true }
+{}

@@ -1,7 +1,7 @@
 //! The statements that stand for a driver and for a reset.
 ghost use Rattle.std.specs.Prelude.{◌≡◌, [], ◌∷◌, ◌++◌, codes, flat_map, IfOk, OnOk};
 ghost use Rattle.tl_ast.specs.declared.tree.TestExpr.TheVariants.{Num};
-ghost use Rattle.tl_ast.specs.declared.tree.TestStmt.TheVariants.{Poke, Step, If, JoinStep};
+ghost use Rattle.tl_ast.specs.declared.tree.TestStmt.TheVariants.{Poke, Expect, Step, If, JoinStep};
 ghost use Rattle.tl_check.specs.Scopes.{drivers_variable, drivers_handle};
 ghost use Rattle.tl_drivers.specs.Rows.{still_zero, until_set, watch, enqueue, enqueue_now, expect_dequeue, expect_dequeue_now, expect_invalid, driver, reset};
 
@@ -38,6 +38,38 @@ fn part(alloc: Global, port: &Name, suffix: &[u8]) -> Result<Name, Memory>
     let mut bytes = port.copy(alloc)?.into_vec();
     put(&mut bytes, suffix)?;
     Ok(Name::of(bytes))
+}
+
+/// `poke port = number;`
+fn poke(line: u32, port: Name, number: u128) -> TestStmt
+    ensures { result ≡ Poke line port (Num number) }
+{
+    TestStmt::Poke {
+        line,
+        port,
+        value: TestExpr::Num(number),
+    }
+}
+
+/// `expect port == number;`
+fn expect(line: u32, port: Name, number: u128) -> TestStmt
+    ensures { result ≡ Expect line port (Num number) }
+{
+    TestStmt::Expect {
+        line,
+        port,
+        value: TestExpr::Num(number),
+    }
+}
+
+/// `joinstep $d;`
+fn await_thread(alloc: Global, line: u32) -> Result<TestStmt, Memory>
+    ensures { IfOk result (λ s. s ≡ JoinStep line drivers_handle) }
+{
+    Ok(TestStmt::JoinStep {
+        line,
+        handle: own_handle(alloc)?,
+    })
 }
 
 /// `$r == 0`
@@ -115,21 +147,10 @@ fn put_handshake(
         )
     }
 {
-    out.push(TestStmt::Poke {
-        line,
-        port: signal.copy(alloc)?,
-        value: TestExpr::Num(1),
-    })?;
+    out.push(poke(line, signal.copy(alloc)?, 1))?;
     out.push(watch(alloc, line, body)?)?;
-    out.push(TestStmt::JoinStep {
-        line,
-        handle: own_handle(alloc)?,
-    })?;
-    out.push(TestStmt::Poke {
-        line,
-        port: signal,
-        value: TestExpr::Num(0),
-    })?;
+    out.push(await_thread(alloc, line)?)?;
+    out.push(poke(line, signal, 0))?;
     Ok(())
 }
 
@@ -143,9 +164,10 @@ fn put_enqueue(
 ) -> Result<(), Memory>
     ensures { OnOk result (out.new.items ≡ out.old.items ++ enqueue line port.now value) }
 {
+    let bits = part(alloc, port, b".bits")?;
     out.push(TestStmt::Poke {
         line,
-        port: part(alloc, port, b".bits")?,
+        port: bits,
         value,
     })?;
     let watching = until_set(alloc, line, part(alloc, port, b".ready")?)?;
@@ -162,17 +184,14 @@ fn put_enqueue_now(
 ) -> Result<(), Memory>
     ensures { OnOk result (out.new.items ≡ out.old.items ++ enqueue_now line port.now value) }
 {
+    let bits = part(alloc, port, b".bits")?;
     out.push(TestStmt::Poke {
         line,
-        port: part(alloc, port, b".bits")?,
+        port: bits,
         value,
     })?;
     let mut watching = Vec::new(alloc);
-    watching.push(TestStmt::Expect {
-        line,
-        port: part(alloc, port, b".ready")?,
-        value: TestExpr::Num(1),
-    })?;
+    watching.push(expect(line, part(alloc, port, b".ready")?, 1))?;
     put_handshake(alloc, out, line, part(alloc, port, b".valid")?, watching)
 }
 
@@ -186,13 +205,15 @@ fn put_expect_dequeue(
 ) -> Result<(), Memory>
     ensures { OnOk result (out.new.items ≡ out.old.items ++ expect_dequeue line port.now value) }
 {
-    let mut watching = until_set(alloc, line, part(alloc, port, b".valid")?)?;
-    watching.push(TestStmt::Expect {
+    let bits = part(alloc, port, b".bits")?;
+    let expected = TestStmt::Expect {
         line,
-        port: part(alloc, port, b".bits")?,
+        port: bits,
         value,
-    })?;
-    put_handshake(alloc, out, line, part(alloc, port, b".ready")?, watching)
+    };
+    let mut polling = until_set(alloc, line, part(alloc, port, b".valid")?)?;
+    polling.push(expected)?;
+    put_handshake(alloc, out, line, part(alloc, port, b".ready")?, polling)
 }
 
 /// Puts the row of `expectDequeueNow port value`.
@@ -205,15 +226,12 @@ fn put_expect_dequeue_now(
 ) -> Result<(), Memory>
     ensures { OnOk result (out.new.items ≡ out.old.items ++ expect_dequeue_now line port.now value) }
 {
+    let bits = part(alloc, port, b".bits")?;
     let mut watching = Vec::new(alloc);
+    watching.push(expect(line, part(alloc, port, b".valid")?, 1))?;
     watching.push(TestStmt::Expect {
         line,
-        port: part(alloc, port, b".valid")?,
-        value: TestExpr::Num(1),
-    })?;
-    watching.push(TestStmt::Expect {
-        line,
-        port: part(alloc, port, b".bits")?,
+        port: bits,
         value,
     })?;
     put_handshake(alloc, out, line, part(alloc, port, b".ready")?, watching)
@@ -229,11 +247,7 @@ fn put_expect_invalid(
     ensures { OnOk result (out.new.items ≡ out.old.items ++ expect_invalid line port.now) }
 {
     let mut watching = Vec::new(alloc);
-    watching.push(TestStmt::Expect {
-        line,
-        port: part(alloc, port, b".valid")?,
-        value: TestExpr::Num(0),
-    })?;
+    watching.push(expect(line, part(alloc, port, b".valid")?, 0))?;
     out.push(watch(alloc, line, watching)?)?;
     Ok(())
 }
@@ -334,16 +348,8 @@ pub fn put_reset(
 ) -> Result<(), Memory>
     ensures { OnOk result (out.new.items ≡ out.old.items ++ reset line count) }
 {
-    out.push(TestStmt::Poke {
-        line,
-        port: name(alloc, b"reset")?,
-        value: TestExpr::Num(1),
-    })?;
+    out.push(poke(line, name(alloc, b"reset")?, 1))?;
     out.push(TestStmt::Step { line, count })?;
-    out.push(TestStmt::Poke {
-        line,
-        port: name(alloc, b"reset")?,
-        value: TestExpr::Num(0),
-    })?;
+    out.push(poke(line, name(alloc, b"reset")?, 0))?;
     Ok(())
 }
