@@ -43,7 +43,7 @@ pub record DriverExamples : Type 0 where
       ≡ Poke 3 (codes "q.bits") more
       ∷ Poke 3 (codes "q.valid") (Num 1)
       ∷ Fork 3 (Some Monitor) (codes "$d") (
-        Let 3 (codes "$r") (Num 0) ∷ While 3 unset (Peek 3 (codes "q.ready") (Some (codes "$r")) ∷ If 3 unset (Step 3 1 ∷ []) [] ∷ []) ∷ []
+      Let 3 (codes "$r") (Num 0) ∷ While 3 unset (Peek 3 (codes "q.ready") (Some (codes "$r")) ∷ If 3 unset (Step 3 1 ∷ []) [] ∷ []) ∷ []
       )
       ∷ JoinStep 3 (codes "$d")
       ∷ Poke 3 (codes "q.valid") (Num 0)
@@ -54,10 +54,10 @@ pub record DriverExamples : Type 0 where
       core (Driver 6 ExpectDequeue (codes "q") (more ∷ []))
       ≡ Poke 6 (codes "q.ready") (Num 1)
       ∷ Fork 6 (Some Monitor) (codes "$d") (
-        Let 6 (codes "$r") (Num 0)
-        ∷ While 6 unset (Peek 6 (codes "q.valid") (Some (codes "$r")) ∷ If 6 unset (Step 6 1 ∷ []) [] ∷ [])
-        ∷ Expect 6 (codes "q.bits") more
-        ∷ []
+      Let 6 (codes "$r") (Num 0)
+      ∷ While 6 unset (Peek 6 (codes "q.valid") (Some (codes "$r")) ∷ If 6 unset (Step 6 1 ∷ []) [] ∷ [])
+      ∷ Expect 6 (codes "q.bits") more
+      ∷ []
       )
       ∷ JoinStep 6 (codes "$d")
       ∷ Poke 6 (codes "q.ready") (Num 0)

@@ -140,12 +140,10 @@ fn put_handshake(
     signal: Name,
     body: Vec<TestStmt>,
 ) -> Result<(), Memory>
-    ensures {
-        OnOk result (
-            out.new.items
-            ≡ out.old.items ++ Poke line signal (Num 1) ∷ watch line body.items ∷ JoinStep line drivers_handle ∷ Poke line signal (Num 0) ∷ []
-        )
-    }
+    ensures { OnOk result (
+        out.new.items
+        ≡ out.old.items ++ Poke line signal (Num 1) ∷ watch line body.items ∷ JoinStep line drivers_handle ∷ Poke line signal (Num 0) ∷ []
+        ) }
 {
     out.push(poke(line, signal.copy(alloc)?, 1))?;
     out.push(watch(alloc, line, body)?)?;

@@ -96,7 +96,10 @@ fn stands_on(stmt: &TestStmt, wanted: u32) -> bool {
         | TestStmt::Let { line, .. }
         | TestStmt::JoinStep { line, .. } => *line == wanted,
         TestStmt::If {
-            line, taken, other, ..
+            line,
+            taken,
+            other,
+            ..
         } => {
             *line == wanted
                 && stand_on(taken.as_slice(), wanted)
@@ -195,11 +198,17 @@ fn a_sequence_is_its_values_in_turn(rt: HostRuntime) {
     let three = "enqueueSeq q [5, 6, 7];";
     let turns = "enqueue q 5; enqueue q 6; enqueue q 7;";
     let alloc = rt.alloc();
-    let (Some(sequence), Some(singles)) = (expanded(alloc, three.as_bytes()), expanded(alloc, turns.as_bytes())) else {
+    let (Some(sequence), Some(singles)) = (
+        expanded(alloc, three.as_bytes()),
+        expanded(alloc, turns.as_bytes()),
+    ) else {
         assert!(rt; false);
         return;
     };
-    let (Ok(sequence), Ok(singles)) = (print_test(alloc, sequence.test()), print_test(alloc, singles.test())) else {
+    let (Ok(sequence), Ok(singles)) = (
+        print_test(alloc, sequence.test()),
+        print_test(alloc, singles.test()),
+    ) else {
         assert!(rt; false);
         return;
     };
@@ -208,12 +217,23 @@ fn a_sequence_is_its_values_in_turn(rt: HostRuntime) {
 
 #[test]
 fn a_sequence_of_none_is_nothing(rt: HostRuntime) {
-    assert!(rt; becomes(rt.alloc(), "enqueueSeq q []; expectDequeueSeq d []; step 1;", &["step 1;"]));
+    assert!(rt;
+        becomes(
+            rt.alloc(),
+            "enqueueSeq q []; expectDequeueSeq d []; step 1;",
+            &["step 1;"]
+        )
+    );
 }
 
 #[test]
 fn expect_invalid_waits_for_nothing(rt: HostRuntime) {
-    let lines = ["fork monitor $d {", "  expect d.valid == 0;", "}", "step 2;"];
+    let lines = [
+        "fork monitor $d {",
+        "  expect d.valid == 0;",
+        "}",
+        "step 2;",
+    ];
     assert!(rt; becomes(rt.alloc(), "expectInvalid d; step 2;", &lines));
 }
 
@@ -225,7 +245,8 @@ fn a_reset_is_poked_for_its_steps(rt: HostRuntime) {
 
 #[test]
 fn drivers_in_blocks_give_way_too(rt: HostRuntime) {
-    let text = "fork h { if 1 { expectInvalid d; } else { while 0 { repeat 2 { reset 1; } } } } join h;";
+    let text =
+        "fork h { if 1 { expectInvalid d; } else { while 0 { repeat 2 { reset 1; } } } } join h;";
     let lines = [
         "fork h {",
         "  if 1 {",
@@ -262,7 +283,13 @@ fn a_handle_is_joined_behind_a_driver(rt: HostRuntime) {
         "}",
         "join h;",
     ];
-    assert!(rt; becomes(rt.alloc(), "fork h { } expectInvalid d; expectInvalid d; join h;", &lines));
+    assert!(rt;
+        becomes(
+            rt.alloc(),
+            "fork h { } expectInvalid d; expectInvalid d; join h;",
+            &lines
+        )
+    );
 }
 
 #[test]
