@@ -12,7 +12,7 @@ use tl_written::texts_spell_written_tests;
 /// How many bytes a test text may have.
 const TEXT_LIMIT: usize = 262_144;
 
-/// Adds an unsigned port.
+/// Adds an unsigned port, where none has its name.
 fn add_port(
     alloc: Global,
     table: &mut PortTable,
@@ -26,8 +26,11 @@ fn add_port(
         signed: false,
         width,
     };
-    table.add(Vec::from_slice(alloc, name)?, info)?;
-    Ok(())
+    let name = Vec::from_slice(alloc, name)?;
+    match table.find(name.as_slice()) {
+        None => table.add(name, info),
+        Some(_) => Ok(()),
+    }
 }
 
 fn table(alloc: Global) -> Result<PortTable, Memory> {
@@ -77,6 +80,7 @@ fn becomes(alloc: Global, text: &str, lines: &[&str]) -> bool {
 }
 
 /// Whether these statements, and those in their blocks, all stand on one line.
+#[cycle(lines)]
 fn stand_on(stmts: &[TestStmt], wanted: u32) -> bool {
     for stmt in stmts {
         if !stands_on(stmt, wanted) {
@@ -87,6 +91,7 @@ fn stand_on(stmts: &[TestStmt], wanted: u32) -> bool {
 }
 
 /// Whether this statement, and those in its blocks, all stand on one line. Of the statements that no driver becomes, none does.
+#[cycle(lines)]
 fn stands_on(stmt: &TestStmt, wanted: u32) -> bool {
     match stmt {
         TestStmt::Poke { line, .. }
