@@ -1,11 +1,11 @@
 -- What a core test asks for, of the statements that were found.
-use Rattle.std.proofs.Common.{◌≡◌, Bool, true, List, None, sym, subst}
+use Rattle.std.proofs.Common.{◌≡◌, true, List, None, sym, subst}
 use Rattle.tl_ast.specs.declared.tree.TestStmt.{TestStmt}
 use Rattle.tl_ast.specs.declared.tree.TestText.{TestText}
 use Rattle.tl_check.specs.Walk.{Ports, test_rule}
 use Rattle.tl_check.specs.CoreTests.{is_core}
 use Rattle.tl_check.specs.Bounds.{TestBounds, CoreBounds}
-use Rattle.tl_drivers.specs.Core.{core_body, core_of}
+use Rattle.tl_drivers.specs.Core.{core_body}
 use Rattle.tl_drivers.specs.OwnNames.{leaves_drivers_handle}
 use Rattle.tl_drivers.proofs.Sizes.{core_bounds}
 use Rattle.tl_drivers.proofs.Undriven.{core_is_core}

@@ -1,5 +1,5 @@
 -- The core form gives the same handles to Monitor threads, but for that of drivers.
-use Rattle.std.proofs.Common.{◌≡◌, ℕ, Bool, true, false, ◌||◌, ◌&&◌, List, [], ◌∷◌, ◌++◌, map, refl, sym, ap, ap₂, subst, ◌∙◌}
+use Rattle.std.proofs.Common.{◌≡◌, ℕ, Bool, false, ◌||◌, ◌&&◌, List, [], ◌∷◌, ◌++◌, map, refl, sym, ap, ap₂, subst, ◌∙◌}
 use Rattle.std.specs.Str.{bytes_eq}
 use Rattle.std.specs.Prelude.{flat_map}
 use Rattle.tb_base.specs.declared.path.Region.{Region}
@@ -14,7 +14,7 @@ use Rattle.tl_ast.specs.declared.tree.TestStmt.TheOpen.{TestStmt-F}
 use Rattle.tl_check.specs.Scopes.{drivers_handle, is_monitor, child_region}
 use Rattle.tl_check.specs.Walk.{Part, some_gives, gives_level, part_level, part}
 use Rattle.tl_check.proofs.Unrolled.{unrolled}
-use Rattle.tl_drivers.specs.Rows.{enqueue, enqueue_now, expect_dequeue, expect_dequeue_now, expect_invalid, driver, reset}
+use Rattle.tl_drivers.specs.Rows.{enqueue, enqueue_now, expect_dequeue, expect_dequeue_now, driver}
 use Rattle.tl_drivers.specs.Core.{core_level, core, core_body}
 use Rattle.tl_drivers.proofs.Lists.{map_both, any_both, either_false}
 use Rattle.tl_drivers.proofs.Names.{or_no}

@@ -1,8 +1,7 @@
 -- Statements that keep the rules, one at a time, and what is known behind them.
-use Rattle.std.proofs.Common.{◌≡◌, ℕ, ◌-◌, ◌^◌, List, [], ◌∷◌, ◌++◌, map, Bool, true, false, not, cond, ◌||◌, ◌&&◌, nat_lt, nat_eq, Option, Some, None, Ok, Err, refl, sym, ap, subst, ◌∙◌, eqb-true}
-use Rattle.std.specs.Str.{bytes_eq}
+use Rattle.std.proofs.Common.{◌≡◌, ℕ, ◌-◌, ◌^◌, List, [], ◌∷◌, map, Bool, true, false, not, cond, ◌||◌, ◌&&◌, nat_lt, nat_eq, Option, Some, None, Ok, refl, ap, ◌∙◌, eqb-true}
 use Rattle.tb_base.specs.declared.path.Region.{Region}
-use Rattle.tb_base.specs.declared.path.Region.TheVariants.{Main, Monitor}
+use Rattle.tb_base.specs.declared.path.Region.TheVariants.{Monitor}
 use Rattle.net_core.specs.declared.ports.PortInfo.{PortInfo}
 use Rattle.net_core.specs.Ports.{port_named}
 use Rattle.tl_ast.specs.declared.tree.TestExpr.{TestExpr}
@@ -11,14 +10,14 @@ use Rattle.tl_ast.specs.declared.tree.TestStmt.{TestStmt}
 use Rattle.tl_ast.specs.declared.tree.TestStmt.TheVariants as stmt
 use Rattle.tl_ast.specs.declared.tree.TestStmt.TheOpen as S
 use Rattle.tl_ast.specs.declared.tree.TestStmt.TheOpen.{TestStmt-F}
-use Rattle.tl_check.specs.Scopes.{Known, inside_fork, is_among, is_handle, is_monitor, child_region, drivers_variable, drivers_handle, is_full, most_variables, most_handles}
+use Rattle.tl_check.specs.Scopes.{Known, inside_fork, is_among, is_handle, drivers_variable, drivers_handle}
 use Rattle.tl_check.specs.Values.{uses_unknown, is_missing, goes, is_bit, is_too_wide, literal_too_wide, some_too_wide}
-use Rattle.tl_check.specs.Rules.{Here, first_broken}
+use Rattle.tl_check.specs.Rules.{first_broken}
 use Rattle.tl_check.specs.Walk.{Ports, Outcome, Part, line_of, some_gives, after, in_turn, leave, in_block, behind_let, behind_fork, behind, unless_broken, here, part_level, part}
-use Rattle.tl_check.proofs.Unrolled.{fold-Poke, fold-Peek, fold-Expect, fold-Step, fold-Let, fold-If, fold-While, fold-Fork, fold-JoinStep, fold-Num, out-Num, unrolled}
-use Rattle.tl_drivers.specs.Rows.{still_zero, until_set, watch}
-use Rattle.tl_drivers.proofs.Names.{Name, and_no, name_self}
-use Rattle.tl_drivers.proofs.Judging.{Keeps, unbroken}
+use Rattle.tl_check.proofs.Unrolled.{fold-Poke, fold-Peek, fold-Expect, fold-Step, fold-Let, fold-If, fold-While, fold-Fork, fold-JoinStep, out-Num, unrolled}
+use Rattle.tl_drivers.specs.Rows.{still_zero, watch}
+use Rattle.tl_drivers.proofs.Names.{Name, and_no}
+use Rattle.tl_drivers.proofs.Judging.{unbroken}
 
 -- ---- ports
 

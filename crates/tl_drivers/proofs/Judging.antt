@@ -1,5 +1,5 @@
 -- A statement keeps the rules where it breaks none of them.
-use Rattle.std.proofs.Common.{◌≡◌, Bool, true, false, cond, List, [], ◌∷◌, Option, Some, None, find, refl, sym, ap, ◌∙◌}
+use Rattle.std.proofs.Common.{◌≡◌, Bool, true, false, cond, List, [], ◌∷◌, Some, None, find, refl, sym, ap, ◌∙◌}
 use Rattle.tl_ast.specs.declared.tree.TestStmt.TheOpen.{TestStmt-F}
 use Rattle.tl_check.specs.declared.rule.Rule.{Rule}
 use Rattle.tl_check.specs.declared.rule.Rule.TheVariants.{UnknownPort, PokeOutput, LiteralTooWide, UnknownVariable, UnknownHandle, TooManyNames, JoinLaterRegion, ForkEarlierRegion, NotReadyValid, StepZero}

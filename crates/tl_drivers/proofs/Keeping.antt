@@ -1,9 +1,8 @@
 -- The core form of a test that keeps the rules keeps them.
-use Rattle.std.proofs.Common.{◌≡◌, ℕ, List, [], ◌∷◌, ◌++◌, map, Bool, true, false, not, cond, ◌||◌, ◌&&◌, Option, Some, None, is_some, Ok, Err, refl, sym, ap, subst, ◌∙◌}
+use Rattle.std.proofs.Common.{◌≡◌, ℕ, List, [], ◌∷◌, map, Bool, true, false, not, ◌||◌, ◌&&◌, Option, Some, None, is_some, Ok, Err, refl, sym, ap, subst, ◌∙◌}
 use Rattle.std.specs.Str.{bytes_eq}
 use Rattle.tb_base.specs.declared.path.Region.{Region}
 use Rattle.tb_base.specs.declared.path.Region.TheVariants.{Main}
-use Rattle.tl_ast.specs.declared.tree.TestExpr.{TestExpr}
 use Rattle.tl_ast.specs.declared.tree.TestStmt.{TestStmt}
 use Rattle.tl_ast.specs.declared.tree.TestStmt.TheFolds.{fold-roll-TestStmt, ind-TestStmt, map-TestStmt}
 use Rattle.tl_ast.specs.declared.tree.TestStmt.TheViews.{roll-TestStmt}
@@ -15,14 +14,14 @@ use Rattle.tl_check.specs.declared.rule.Rule.{Rule}
 use Rattle.tl_check.specs.Scopes.{Known, nothing_known, inside_fork, with_variable, handle_named, with_handle, is_monitor, child_region, drivers_handle}
 use Rattle.tl_check.specs.CoreTests.{some_true}
 use Rattle.tl_check.specs.Rules.{first_broken, watches}
-use Rattle.tl_check.specs.Walk.{Ports, Outcome, Part, line_of, some_gives, after, in_turn, leave, in_block, behind_let, behind_fork, behind, unless_broken, here, part_level, part, broken_in, test_rule}
+use Rattle.tl_check.specs.Walk.{Ports, Outcome, Part, line_of, some_gives, after, in_turn, leave, in_block, behind_fork, behind, unless_broken, here, part_level, part, broken_in, test_rule}
 use Rattle.tl_check.proofs.Unrolled.{fold-Poke, fold-Peek, fold-Expect, fold-Step, fold-Let, fold-Set, fold-If, fold-While, fold-Repeat, fold-Fork, fold-Join, fold-JoinStep}
 use Rattle.tl_drivers.specs.Core.{core_level, core, core_body, core_of}
 use Rattle.tl_drivers.specs.OwnNames.{takes_level, takes_drivers_handle, leaves_drivers_handle}
 use Rattle.tl_drivers.proofs.Lists.{map_both}
 use Rattle.tl_drivers.proofs.Names.{Name, Handles, known, Alike, alike_none, alike_fork, alike_more, or_left, or_right}
 use Rattle.tl_drivers.proofs.Gives.{all_give_same}
-use Rattle.tl_drivers.proofs.Judging.{Keeps, keeps, unbroken}
+use Rattle.tl_drivers.proofs.Judging.{keeps, unbroken}
 use Rattle.tl_drivers.proofs.Going.{Goes, goes_by, and_then}
 use Rattle.tl_drivers.proofs.RowsGo.{Reaches, driver_goes, reset_goes}
 

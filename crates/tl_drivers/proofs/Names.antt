@@ -1,14 +1,13 @@
 -- Known names with and without those of drivers.
-use Rattle.std.proofs.Common.{◌≡◌, ℕ, suc, ◌+◌, ◌-◌, List, [], ◌∷◌, ◌++◌, length, Bool, true, false, not, cond, ◌||◌, ◌&&◌, nat_le, Option, Some, None, is_some, refl, sym, ap, subst, ◌∙◌, arith, length-append}
+use Rattle.std.proofs.Common.{◌≡◌, ℕ, ◌+◌, ◌-◌, List, [], ◌∷◌, ◌++◌, length, Bool, true, false, not, cond, ◌||◌, ◌&&◌, nat_le, Option, Some, None, is_some, refl, sym, ap, subst, ◌∙◌, arith, length-append}
 use Rattle.std.specs.Str.{bytes_eq}
-use Rattle.std.specs.List.{list_any}
 use Rattle.std.proofs.lemmas.Slice.Eq.{bytes_eq-Decides}
 use Rattle.tl_ast.specs.declared.tree.TestExpr.{TestExpr}
 use Rattle.tl_ast.specs.declared.tree.TestExpr.TheFolds.{fold-roll-TestExpr, ind-TestExpr, map-TestExpr}
 use Rattle.tl_ast.specs.declared.tree.TestExpr.TheViews.{roll-TestExpr}
 use Rattle.tl_ast.specs.declared.tree.TestExpr.TheOpen as E
 use Rattle.tl_ast.specs.declared.tree.TestExpr.TheOpen.{TestExpr-F}
-use Rattle.tl_check.specs.Scopes.{Known, is_among, with_variable, handle_named, is_handle, with_handle, drivers_variable, drivers_handle, is_full, one_handle_more, most_handles}
+use Rattle.tl_check.specs.Scopes.{Known, is_among, with_variable, handle_named, is_handle, with_handle, drivers_handle, is_full, one_handle_more, most_handles}
 use Rattle.tl_check.specs.Values.{unknown_level, uses_unknown}
 
 abbrev pub Name : Type 0

@@ -1,9 +1,9 @@
 -- Each row keeps the rules where its driver, or its reset, keeps them.
-use Rattle.std.proofs.Common.{◌≡◌, ℕ, List, [], ◌∷◌, ◌++◌, map, Bool, true, false, not, cond, ◌||◌, ◌&&◌, nat_eq, Option, Some, None, Ok, refl, sym, ap, subst, ◌∙◌}
+use Rattle.std.proofs.Common.{◌≡◌, ℕ, List, [], ◌∷◌, ◌++◌, map, Bool, true, false, not, ◌||◌, ◌&&◌, Option, Some, None, Ok, refl, ap, subst, ◌∙◌}
 use Rattle.std.specs.Prelude.{flat_map, codes}
 use Rattle.std.specs.List.{list_any}
 use Rattle.tb_base.specs.declared.path.Region.{Region}
-use Rattle.tb_base.specs.declared.path.Region.TheVariants.{Main, Monitor}
+use Rattle.tb_base.specs.declared.path.Region.TheVariants.{Monitor}
 use Rattle.net_core.specs.declared.ports.PortInfo.{PortInfo}
 use Rattle.net_core.specs.Ports.{port_named}
 use Rattle.tl_ast.specs.declared.tree.DriverKind.{DriverKind}
@@ -13,14 +13,14 @@ use Rattle.tl_ast.specs.declared.tree.TestExpr.TheVariants.{Num}
 use Rattle.tl_ast.specs.declared.tree.TestStmt.{TestStmt}
 use Rattle.tl_ast.specs.declared.tree.TestStmt.TheVariants as stmt
 use Rattle.tl_ast.specs.declared.tree.TestStmt.TheOpen as S
-use Rattle.tl_check.specs.Scopes.{Known, inside_fork, with_variable, with_handle, drivers_variable, drivers_handle}
+use Rattle.tl_check.specs.Scopes.{Known, inside_fork, with_handle, drivers_variable, drivers_handle}
 use Rattle.tl_check.specs.Values.{uses_unknown, is_bit, goes, is_too_wide, some_too_wide, ready_port, valid_port, bits_port, enqueues, is_ready_valid}
 use Rattle.tl_check.specs.Walk.{Ports, Outcome, Part, some_gives, in_turn, behind_let, behind_fork, here, part}
 use Rattle.tl_drivers.specs.Rows.{still_zero, until_set, watch, enqueue, enqueue_now, expect_dequeue, expect_dequeue_now, expect_invalid, driver, reset}
 use Rattle.tl_drivers.proofs.Lists.{map_both, append_three}
 use Rattle.tl_drivers.proofs.Names.{Name, Handles, known, Alike, alike_driver, among_with, handle_with, stays_known, or_left, or_right}
 use Rattle.tl_drivers.proofs.Judging.{Keeps}
-use Rattle.tl_drivers.proofs.Going.{Bit, There, bit_there, port_there, not_true, zero_fits, one_fits, bit_found, bit_in, there_found, there_in, num_known, zero_known, Goes, and_then, poke_goes, expect_goes, peek_goes, step_goes, let_goes, while_goes, if_goes, watch_goes, joinstep_goes}
+use Rattle.tl_drivers.proofs.Going.{Bit, There, bit_there, port_there, zero_fits, one_fits, bit_found, bit_in, there_found, there_in, num_known, zero_known, Goes, and_then, poke_goes, expect_goes, peek_goes, step_goes, let_goes, while_goes, if_goes, watch_goes, joinstep_goes}
 
 and_left : (a b : Bool) → (a && b) ≡ true → a ≡ true
 and_left true b e = refl

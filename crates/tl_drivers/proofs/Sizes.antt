@@ -1,5 +1,5 @@
 -- How large core statements are.
-use Rattle.std.proofs.Common.{◌≡◌, ℕ, zero, suc, ◌+◌, ◌*◌, ◌≤◌, max, Bool, List, [], ◌∷◌, ◌++◌, map, length, refl, sym, ap, subst, ◌∙◌, arith}
+use Rattle.std.proofs.Common.{◌≡◌, ℕ, ◌+◌, ◌*◌, ◌≤◌, max, List, [], ◌∷◌, ◌++◌, map, length, refl, sym, ap, subst, arith}
 use Rattle.std.specs.Prelude.{sum, flat_map}
 use Rattle.tl_ast.specs.declared.tree.DriverKind.{DriverKind}
 use Rattle.tl_ast.specs.declared.tree.DriverKind.TheVariants.{Enqueue, EnqueueNow, EnqueueSeq, ExpectDequeue, ExpectDequeueNow, ExpectDequeueSeq, ExpectInvalid}
@@ -13,7 +13,7 @@ use Rattle.tl_ast.specs.declared.tree.TestText.{TestText}
 use Rattle.tl_check.specs.Bounds.{greatest, statements_level, statements, values_level, driver_values, blocks_level, nested_blocks, forks_level, nested_forks, TestBounds, CoreBounds}
 use Rattle.tl_check.proofs.Unrolled.{unrolled}
 use Rattle.tl_drivers.specs.Rows.{enqueue, enqueue_now, expect_dequeue, expect_dequeue_now, expect_invalid, driver, reset}
-use Rattle.tl_drivers.specs.Core.{joined, core_level, core, core_body, core_of}
+use Rattle.tl_drivers.specs.Core.{core_level, core, core_body, core_of}
 use Rattle.tl_drivers.proofs.Lists.{sum_first, sum_both, greatest_both}
 
 -- statements that are so many at most, nested at most so deep

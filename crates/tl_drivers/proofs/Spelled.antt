@@ -1,14 +1,13 @@
 -- A test that a text spells leaves the drivers' handle to drivers, since its names are words.
-use Rattle.std.proofs.Common.{◌≡◌, ℕ, zero, suc, Bool, true, false, not, ◌||◌, Option, Some, None, List, [], ◌∷◌, map, refl, sym, ap, ◌∙◌}
+use Rattle.std.proofs.Common.{◌≡◌, ℕ, zero, suc, Bool, true, false, not, Option, Some, None, List, [], ◌∷◌, map, refl, sym, ap, ◌∙◌}
 use Rattle.std.specs.Prelude.{codes}
 use Rattle.std.specs.Str.{bytes_eq}
 use Rattle.tb_base.specs.declared.path.Region.{Region}
 use Rattle.text_grammar.specs.declared.item.Symbol.TheVariants as s
 use Rattle.text_grammar.specs.declared.fault.Kind.TheVariants.{TooDeep}
-use Rattle.text_grammar.specs.Part.{Part, first, second, both, nothing, stop}
+use Rattle.text_grammar.specs.Part.{Part, both, nothing, stop}
 use Rattle.text_grammar.specs.Terminals.{is_name, keyword, mark, name}
 use Rattle.tl_lex.specs.Lex.{items_of}
-use Rattle.tl_ast.specs.declared.tree.TestExpr.{TestExpr}
 use Rattle.tl_ast.specs.declared.tree.DriverKind.{DriverKind}
 use Rattle.tl_ast.specs.declared.tree.DriverKind.TheVariants as kind
 use Rattle.tl_ast.specs.declared.tree.TestStmt.{TestStmt}
@@ -28,7 +27,7 @@ use Rattle.tl_round.proofs.Keeps.{Keeps, Any, any, Each, keeps_to, keeps_both, k
 use Rattle.tl_round.proofs.Depth.{keeps_name}
 use Rattle.tl_drivers.specs.OwnNames.{takes_drivers_handle, leaves_drivers_handle}
 use Rattle.tl_drivers.proofs.Lists.{either_false}
-use Rattle.tl_drivers.proofs.Names.{same_name, or_no}
+use Rattle.tl_drivers.proofs.Names.{same_name}
 
 -- ---- statements
 

@@ -1,5 +1,5 @@
 -- In the core form no driver and no reset is left.
-use Rattle.std.proofs.Common.{◌≡◌, Bool, true, false, not, ◌||◌, ℕ, List, [], ◌∷◌, ◌++◌, map, refl, sym, ap, subst, ◌∙◌}
+use Rattle.std.proofs.Common.{◌≡◌, Bool, true, false, not, ◌||◌, ℕ, List, [], ◌∷◌, ◌++◌, map, refl, ap, subst, ◌∙◌}
 use Rattle.std.specs.Prelude.{flat_map}
 use Rattle.tl_ast.specs.declared.tree.DriverKind.{DriverKind}
 use Rattle.tl_ast.specs.declared.tree.DriverKind.TheVariants.{Enqueue, EnqueueNow, EnqueueSeq, ExpectDequeue, ExpectDequeueNow, ExpectDequeueSeq, ExpectInvalid}
@@ -12,7 +12,7 @@ use Rattle.tl_ast.specs.declared.tree.TestStmt.TheOpen.{TestStmt-F}
 use Rattle.tl_ast.specs.declared.tree.TestText.{TestText}
 use Rattle.tl_check.specs.CoreTests.{some_true, drives, is_core}
 use Rattle.tl_check.proofs.Unrolled.{unrolled}
-use Rattle.tl_drivers.specs.Rows.{enqueue, enqueue_now, expect_dequeue, expect_dequeue_now, expect_invalid, driver, reset}
+use Rattle.tl_drivers.specs.Rows.{enqueue, enqueue_now, expect_dequeue, expect_dequeue_now, driver, reset}
 use Rattle.tl_drivers.specs.Core.{core_level, core, core_body, core_of}
 use Rattle.tl_drivers.proofs.Lists.{some_both, either_false}
 

@@ -6,7 +6,7 @@ use Rattle.tl_ast.specs.declared.tree.TestExpr.TheVariants.{Num, Var, Two}
 use Rattle.tl_ast.specs.declared.tree.TestOp.TheVariants.{Eq, Add}
 use Rattle.tl_ast.specs.declared.tree.DriverKind.TheVariants.{Enqueue, EnqueueNow, EnqueueSeq, ExpectDequeue, ExpectDequeueNow, ExpectDequeueSeq, ExpectInvalid}
 use Rattle.tl_ast.specs.declared.tree.TestStmt.{TestStmt}
-use Rattle.tl_ast.specs.declared.tree.TestStmt.TheVariants.{Poke, Peek, Expect, Step, Let, Set, If, While, Repeat, Fork, Join, JoinStep, Driver, ResetFor}
+use Rattle.tl_ast.specs.declared.tree.TestStmt.TheVariants.{Poke, Peek, Expect, Step, Let, If, While, Repeat, Fork, Join, JoinStep, Driver, ResetFor}
 use Rattle.tl_drivers.specs.Core.{core, core_of}
 use Rattle.tl_drivers.specs.OwnNames.{leaves_drivers_handle}
 

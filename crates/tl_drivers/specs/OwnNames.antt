@@ -1,5 +1,5 @@
 -- Tests that leave the drivers' handle to drivers, as each does that a text spells: no word has a `$`.
-use Rattle.std.specs.Prelude.{Bool, true, false, not, ◌||◌, List, map, bytes_eq}
+use Rattle.std.specs.Prelude.{Bool, false, not, ◌||◌, map, bytes_eq}
 use Rattle.tl_ast.specs.declared.tree.TestStmt.{TestStmt}
 use Rattle.tl_ast.specs.declared.tree.TestStmt.TheFolds.{fold-TestStmt}
 use Rattle.tl_ast.specs.declared.tree.TestStmt.TheOpen.{TestStmt-F, If, While, Repeat, Fork, Join, JoinStep}
