@@ -1,0 +1,11 @@
+mod Lists
+mod Sizes
+mod Undriven
+mod Names
+mod Gives
+mod Judging
+mod Going
+mod RowsGo
+mod Keeping
+mod Ending
+mod Spelled

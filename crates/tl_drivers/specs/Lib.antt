@@ -1,0 +1,4 @@
+pub mod Rows
+pub mod Core
+pub mod OwnNames
+pub mod Examples
