@@ -67,7 +67,9 @@ pub record DriverExamples : Type 0 where
   pub invalid : core (Driver 8 ExpectInvalid (codes "q") []) ≡ Fork 8 (Some Monitor) (codes "$d") (Expect 8 (codes "q.valid") (Num 0) ∷ []) ∷ []
   pub reset_of_three : core (ResetFor 9 3) ≡ Poke 9 (codes "reset") (Num 1) ∷ Step 9 3 ∷ Poke 9 (codes "reset") (Num 0) ∷ []
   -- a sequence is its values in turn
-  pub sequence : core (Driver 3 EnqueueSeq (codes "q") (Num 1 ∷ Num 2 ∷ [])) ≡ core (Driver 3 Enqueue (codes "q") (Num 1 ∷ [])) ++ core (Driver 3 Enqueue (codes "q") (Num 2 ∷ []))
+  pub sequence :
+      core (Driver 3 EnqueueSeq (codes "q") (Num 1 ∷ Num 2 ∷ []))
+      ≡ core (Driver 3 Enqueue (codes "q") (Num 1 ∷ [])) ++ core (Driver 3 Enqueue (codes "q") (Num 2 ∷ []))
   pub dequeued_sequence :
       core (Driver 3 ExpectDequeueSeq (codes "q") (Num 1 ∷ Num 2 ∷ []))
       ≡ core (Driver 3 ExpectDequeue (codes "q") (Num 1 ∷ [])) ++ core (Driver 3 ExpectDequeue (codes "q") (Num 2 ∷ []))
@@ -79,11 +81,17 @@ pub record CoreExamples : Type 0 where
   pub empty : core_of (record { body = [] }) ≡ record { body = [] }
   -- in blocks too: `if v + 1 { enqueueNow io.in[2] 5; step 1; } else { enqueueSeq q []; }`
   pub in_branches :
-      core_of (record { body = If 1 more (Driver 4 EnqueueNow (codes "io.in[2]") (Num 5 ∷ []) ∷ Step 5 1 ∷ []) (Driver 6 EnqueueSeq (codes "q") [] ∷ []) ∷ [] })
+      core_of (record {
+        body = If 1 more (Driver 4 EnqueueNow (codes "io.in[2]") (Num 5 ∷ []) ∷ Step 5 1 ∷ []) (Driver 6 EnqueueSeq (codes "q") [] ∷ []) ∷ [];
+      })
       ≡ record { body = If 1 more (now ++ Step 5 1 ∷ []) [] ∷ [] }
   -- `fork h { while v + 1 { repeat 2 { expectDequeueNow q 8; } } } join h;`
   pub in_a_fork :
-      core_of (record { body = Fork 1 None (codes "h") (While 5 more (Repeat 6 (Num 2) (Driver 7 ExpectDequeueNow (codes "q") (Num 8 ∷ []) ∷ []) ∷ []) ∷ []) ∷ Join 8 (codes "h") ∷ [] })
+      core_of (record {
+        body =
+            Fork 1 None (codes "h") (While 5 more (Repeat 6 (Num 2) (Driver 7 ExpectDequeueNow (codes "q") (Num 8 ∷ []) ∷ []) ∷ []) ∷ [])
+            ∷ Join 8 (codes "h") ∷ [];
+      })
       ≡ record { body = Fork 1 None (codes "h") (While 5 more (Repeat 6 (Num 2) (dequeued (Num 8)) ∷ []) ∷ []) ∷ Join 8 (codes "h") ∷ [] }
   pub own_handle_left : leaves_drivers_handle (record { body = Fork 1 None (codes "d") [] ∷ Join 2 (codes "d") ∷ [] }) ≡ true
   pub own_handle_taken : leaves_drivers_handle (record { body = While 1 more (Fork 2 None (codes "$d") [] ∷ []) ∷ [] }) ≡ false
