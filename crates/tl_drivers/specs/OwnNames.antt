@@ -1,4 +1,4 @@
--- Tests that leave the drivers' handle to drivers, as each does that a text spells: no word has a `$`.
+-- Tests that leave the drivers' handle to drivers, as each does that a text spells: no word begins with `$`.
 use Rattle.std.specs.Prelude.{Bool, false, not, ◌||◌, map, bytes_eq}
 use Rattle.tl_ast.specs.declared.tree.TestStmt.{TestStmt}
 use Rattle.tl_ast.specs.declared.tree.TestStmt.TheFolds.{fold-TestStmt}

@@ -19,7 +19,7 @@ pub use examples::{the_core_form_works_out, the_rows_work_out};
 pub use expansion::expand;
 
 /// A law: a test that a text spells, as `tl_text::read_test` finds it, leaves the handle `$d` to drivers, as `expand` asks: its names are
-/// words, and no word has a `$`.
+/// words, and no word begins with `$`.
 pub fn texts_leave_the_drivers_handle()
     ensures { (text : List ℕ) (test : TestText) → spells_test text test → leaves_drivers_handle test ≡ true }
 {}
