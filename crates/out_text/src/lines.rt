@@ -56,14 +56,14 @@ fn put_wanted(
 }
 
 /// Puts where a record was made.
-fn put_where(alloc: Global, out: &mut Vec<u8>, record: &Observation) -> Result<(), Memory>
-    ensures { OnOk result (out.new.items ≡ out.old.items ++ where_text record.now) }
+fn put_where(alloc: Global, out: &mut Vec<u8>, observation: &Observation) -> Result<(), Memory>
+    ensures { OnOk result (out.new.items ≡ out.old.items ++ where_text observation.now) }
 {
-    put_decimal(alloc, out, u128::from(record.time))?;
+    put_decimal(alloc, out, u128::from(observation.time))?;
     put(out, b" ")?;
-    put_path(alloc, out, &record.path)?;
+    put_path(alloc, out, &observation.path)?;
     put(out, b" ")?;
-    put_decimal(alloc, out, u128::from(record.line))?;
+    put_decimal(alloc, out, u128::from(observation.line))?;
     Ok(())
 }
 
@@ -83,17 +83,17 @@ fn put_seen(
     alloc: Global,
     out: &mut Vec<u8>,
     signals: &[SignalInfo],
-    record: &Observation,
+    observation: &Observation,
 ) -> Result<(), Memory>
-    ensures { OnOk result (out.new.items ≡ out.old.items ++ seen_text (info signals.now record.now.port.0) record.now) }
+    ensures { OnOk result (out.new.items ≡ out.old.items ++ seen_text (info signals.now observation.now.port.0) observation.now) }
 {
-    let (name, signed) = port_of(signals, record.port.0 as usize);
-    put(out, verb(record.wanted))?;
+    let (name, signed) = port_of(signals, observation.port.0 as usize);
+    put(out, verb(observation.wanted))?;
     put(out, b" ")?;
     put(out, name)?;
     put(out, b" = ")?;
-    put_number(alloc, out, signed, record.value)?;
-    put_wanted(alloc, out, signed, record.wanted)?;
+    put_number(alloc, out, signed, observation.value)?;
+    put_wanted(alloc, out, signed, observation.wanted)?;
     Ok(())
 }
 
@@ -102,13 +102,13 @@ fn put_record(
     alloc: Global,
     out: &mut Vec<u8>,
     signals: &[SignalInfo],
-    record: &Observation,
+    observation: &Observation,
 ) -> Result<(), Memory>
-    ensures { OnOk result (out.new.items ≡ out.old.items ++ record_text signals.now record.now) }
+    ensures { OnOk result (out.new.items ≡ out.old.items ++ record_text signals.now observation.now) }
 {
-    put_where(alloc, out, record)?;
+    put_where(alloc, out, observation)?;
     put(out, b" ")?;
-    put_seen(alloc, out, signals, record)?;
+    put_seen(alloc, out, signals, observation)?;
     put(out, b"\n")?;
     Ok(())
 }
