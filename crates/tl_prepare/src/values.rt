@@ -11,8 +11,9 @@ use tb_base::Memory;
 use tl_ast::TestOp;
 use tl_threads::code::Item;
 
-/// The numbers of an operand that is worked out, the topmost last. Up to eight stand in place.
-type Stack = SmallVec<u128, 8>;
+/// The numbers of an operand that is worked out, the topmost last. An expression has at most 64 operators with two sides, so its numbers
+/// are at most 65: all stand in place, and no memory is taken.
+type Stack = SmallVec<u128, 65>;
 
 fn bit(holds: bool) -> u128
     ensures { result ≡ values.bit holds }
