@@ -307,7 +307,10 @@ while v {
 }
 poke a = v;";
     let places = places_read(rt.alloc(), text).ok_or("refused")?;
-    assert_eq!(rt; places.as_slice(), [0, 1, 2, 3, 4, 5, 6, 7, 8, 9, 10].as_slice());
+    assert_eq!(rt;
+        places.as_slice(),
+        [0, 1, 2, 3, 4, 5, 6, 7, 8, 9, 10].as_slice()
+    );
     Ok(())
 }
 
