@@ -1,6 +1,6 @@
 -- Instructions that were read, sorted by place.
-use Rattle.std.proofs.Common.{◌≡◌, ℕ, zero, suc, ◌<◌, ◌≤◌, ◌==◌, List, [], ◌∷◌, length, map, get_or, Bool, true, false, cond, Some, Result, Ok, Err, IfOk, IfErr, refl, sym, ap, subst, ◌∙◌, arith}
-use Rattle.std.specs.List.{All, AllPairs, dedup, dedup_from}
+use Rattle.std.proofs.Common.{◌≡◌, ℕ, zero, suc, ◌<◌, ◌≤◌, ◌==◌, List, [], ◌∷◌, length, get_or, Bool, true, false, cond, Some, Result, Ok, Err, IfOk, IfErr, refl, sym, ap, subst, ◌∙◌, arith}
+use Rattle.std.specs.List.{All, dedup, dedup_from}
 use Rattle.std.specs.List.Sorted.{IsPermutation, IsNonDecreasingBy, IsSearchInRange, IsBinarySearchResult}
 use Rattle.std.specs.Ordering.{nat_cmp, ordering_index}
 use Rattle.std.proofs.lemmas.Bool.{eqb-true, eqb-false}
@@ -12,7 +12,7 @@ use Rattle.std.proofs.lemmas.List.Kept.{AllPairs-cons}
 use Rattle.std.proofs.lemmas.List.Sorted.{All-permutation, IsPermutation-sym}
 use Rattle.tl_threads.specs.Machine.{Code}
 use Rattle.tl_code.specs.declared.state.Fetched.{Fetched}
-use Rattle.tl_prepare.specs.Listed.{places_of, Once, ByPlace, IsAt, IsGap}
+use Rattle.tl_prepare.specs.Listed.{Once, ByPlace, IsAt, IsGap}
 use Rattle.tl_prepare.specs.Runs.{HoldsAll, NotesSame, AreHeld}
 use Rattle.tl_prepare.proofs.Holding.{Held, held_all, all_held}
 use Rattle.tl_prepare.proofs.Noting.{one_instr}
