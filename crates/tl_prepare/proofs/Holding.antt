@@ -9,7 +9,7 @@ use Rattle.tl_code.specs.Codes.{Holds}
 use Rattle.tl_prepare.specs.Work.{Work}
 use Rattle.tl_prepare.specs.Runs.{code_at, HoldsAll}
 
-abbrev Held : Code → Fetched → Type 0
+abbrev pub Held : Code → Fetched → Type 0
 Held f x = f x.pc ≡ Some x.instr
 
 pub held_all : (f : Code) (fetched : List Fetched) → All (λ x. f x.pc ≡ Some x.instr) fetched → HoldsAll f fetched

@@ -2,6 +2,7 @@ pub mod Stacks
 pub mod Forking
 pub mod Reaching
 pub mod Noting
+pub mod Settling
 pub mod Completing
 pub mod Starting
 pub mod Moving

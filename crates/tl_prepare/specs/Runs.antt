@@ -26,6 +26,14 @@ Read fetched pc i = (f : Code) → HoldsAll f fetched → f pc ≡ Some i
 abbrev pub NotesMore : List Fetched → List Fetched → ℕ → Instr → Type 0
 NotesMore old new pc i = (f : Code) → HoldsAll f new ↔ (HoldsAll f old × (f pc ≡ Some i))
 
+-- the same instructions at the same places, in whatever order and however often
+abbrev pub NotesSame : List Fetched → List Fetched → Type 0
+NotesSame old new = (f : Code) → HoldsAll f new ↔ HoldsAll f old
+
+-- some code has what was noted
+abbrev pub AreHeld : List Fetched → Type 0
+AreHeld noted = (f : Code) × HoldsAll f noted
+
 -- the instruction can be noted: some code has it, and what was noted
 abbrev pub CanNote : List Fetched → ℕ → Instr → Type 0
 CanNote noted pc i = (f : Code) × HoldsAll f noted × (f pc ≡ Some i)

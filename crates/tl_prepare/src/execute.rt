@@ -8,6 +8,7 @@ ghost use Rattle.tl_prepare.specs.Runs.{code_at, HoldsAll, Works, Gives};
 use crate::notes::Notes;
 use crate::runner::Runner;
 use crate::step::{Stepped, step};
+use crate::values::Stack;
 use sqlite_items::at;
 use std::alloc::Global;
 use tb_base::Memory;
@@ -47,12 +48,13 @@ pub fn execute(
     let mut run = start;
     let mut used = 0u32;
     let mut notes = Notes::new(alloc);
+    let mut stack = Stack::new(alloc);
     'steps: loop {
         let Some(placed) = placed_at(code, &run) else {
             unreachable!()
         };
         notes.note(run.pc, &placed.instr)?;
-        match step(alloc, &mut run, &placed.instr, used >= limit)? {
+        match step(&mut stack, &mut run, &placed.instr, used >= limit)? {
             Stepped::Jumped => {}
             Stepped::Went => used += 1,
             Stepped::Acts(act) => {

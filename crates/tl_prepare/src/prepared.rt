@@ -83,15 +83,37 @@ fn state_behind(thread: &ThreadState, run: Runner, joined: Option<Path>) -> Thre
     }
 }
 
-/// The state of a thread that is spent or ends.
-fn state_left(alloc: Global, thread: &ThreadState) -> Result<ThreadState, Memory>
-    requires { thread.now.acts < 4294967295 }
+/// The numbers of a list, put in place of these. Takes no memory where these have the room.
+fn refilled(numbers: Vec<u128>, list: &[u128]) -> Result<Vec<u128>, Memory>
+    ensures { IfOk result (λ v. v.items ≡ list.now) }
+{
+    let mut numbers = numbers;
+    numbers.clear();
+    numbers.extend_from_slice(list)?;
+    Ok(numbers)
+}
+
+/// The state of a thread that is spent or ends. Its numbers go back into the vectors in which they were worked on, which have had the room
+/// for them since they were copied: so this takes no memory.
+fn state_left(thread: &ThreadState, run: Runner) -> Result<ThreadState, Memory>
+    requires acts { thread.now.acts < 4294967295 }
+    requires handles { run.handles.items ≡ thread.now.handles }
     ensures { IfOk result (λ state. state ≡ stayed thread.now) }
 {
-    let mut state = thread.copy(alloc)?;
-    state.acts += 1;
-    state.joined = None;
-    Ok(state)
+    let locals = refilled(run.locals, thread.locals.items())?;
+    let loops = refilled(run.loops, thread.loops.items())?;
+    let acts = thread.acts + 1;
+    Ok(ThreadState {
+        path: thread.path.copy(),
+        region: thread.region,
+        pc: thread.pc,
+        locals: Seq::of(locals),
+        handles: Seq::of(run.handles),
+        loops: Seq::of(loops),
+        forks: thread.forks,
+        acts,
+        joined: None,
+    })
 }
 
 /// The state of a child that begins.
@@ -120,17 +142,13 @@ fn state_of_child(
 }
 
 /// The state behind an act that is no fork.
-fn state_after(
-    alloc: Global,
-    thread: &ThreadState,
-    run: Runner,
-    act: &Act,
-) -> Result<ThreadState, Memory>
-    requires { thread.now.acts < 4294967295 }
+fn state_after(thread: &ThreadState, run: Runner, act: &Act) -> Result<ThreadState, Memory>
+    requires acts { thread.now.acts < 4294967295 }
+    requires handles { run.handles.items ≡ thread.now.handles }
     ensures { IfOk result (λ state. state ≡ given.state_after thread.now run act.now) }
 {
     if is_last(act) {
-        state_left(alloc, thread)
+        state_left(thread, run)
     } else {
         Ok(state_behind(thread, run, joined_child(act)))
     }
@@ -148,7 +166,7 @@ fn complete(alloc: Global, thread: &ThreadState, executed: Executed) -> Result<P
     let Executed { run, step, fetched } = executed;
     match step {
         Stepped::Acts(act) => {
-            let next = state_after(alloc, thread, run, &act)?;
+            let next = state_after(thread, run, &act)?;
             Ok(Prepared {
                 from,
                 act,
@@ -177,8 +195,9 @@ fn complete(alloc: Global, thread: &ThreadState, executed: Executed) -> Result<P
     }
 }
 
-/// The next action of a thread whose state fits the code. `Err(Memory)` says that there wasn't enough memory. The time is linear in the
-/// number of instructions that are executed, the lengths of their operands and the number of slots.
+/// The next action of a thread whose state fits the code. `Err(Memory)` says that there wasn't enough memory; none is taken but for what is
+/// returned. The time is linear in the number of instructions that are executed, the lengths of their operands and the number of slots, but
+/// for a logarithm: each instruction that is executed is looked up among those that were read.
 pub fn prepare(alloc: Global, code: &Code, thread: &ThreadState) -> Result<Prepared, Memory>
     requires { Fits code.now thread.now }
     ensures from { IfOk result (λ p. p.from ≡ thread.now) }
@@ -224,7 +243,7 @@ impl Prepared {
         self.child.as_ref()
     }
 
-    /// The instructions that were read, each once and with its place, in the order in which they were read first.
+    /// The instructions that were read, each once and with its place, in the order of their places.
     pub fn fetched(&self) -> &[Fetched]
         ensures { result.now ≡ self.now.fetched }
     {

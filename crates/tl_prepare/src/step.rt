@@ -4,10 +4,9 @@ ghost use Rattle.tl_prepare.specs.Steps.{IsStep, IsFork};
 
 use crate::act::Act;
 use crate::runner::Runner;
-use crate::values::value;
+use crate::values::{Stack, value};
 use net_core::Signal;
 use sqlite_items::at;
-use std::alloc::Global;
 use tb_base::{Memory, Path, Region};
 use tl_threads::code::{Instr, Operand};
 
@@ -32,7 +31,7 @@ pub enum Stepped {
 }
 
 fn poke(
-    alloc: Global,
+    stack: &mut Stack,
     run: &mut Runner,
     line: u32,
     port: Signal,
@@ -42,7 +41,7 @@ fn poke(
     requires { run.old.pc < u32.MAX }
     ensures { IfOk result (λ r. IsStep full run.old (Instr.Poke line port operand.now) r run.new) }
 {
-    let raw = value(alloc, run.locals.as_slice(), operand.items())?;
+    let raw = value(stack, run.locals.as_slice(), operand.items())?;
     run.pc += 1;
     Ok(Stepped::Acts(Act::Poke { line, port, raw }))
 }
@@ -56,7 +55,7 @@ fn peek(run: &mut Runner, line: u32, port: Signal, into: Option<u32>, full: bool
 }
 
 fn expect(
-    alloc: Global,
+    stack: &mut Stack,
     run: &mut Runner,
     line: u32,
     port: Signal,
@@ -66,7 +65,7 @@ fn expect(
     requires { run.old.pc < u32.MAX }
     ensures { IfOk result (λ r. IsStep full run.old (Instr.Expect line port operand.now) r run.new) }
 {
-    let wanted = value(alloc, run.locals.as_slice(), operand.items())?;
+    let wanted = value(stack, run.locals.as_slice(), operand.items())?;
     run.pc += 1;
     Ok(Stepped::Acts(Act::Expect { line, port, wanted }))
 }
@@ -80,7 +79,7 @@ fn arrive(run: &mut Runner, line: u32, count: u128, full: bool) -> Stepped
 }
 
 fn store(
-    alloc: Global,
+    stack: &mut Stack,
     run: &mut Runner,
     line: u32,
     slot: u32,
@@ -93,7 +92,7 @@ fn store(
     if full {
         return Ok(Stepped::Acts(Act::Spend { line }));
     }
-    let number = value(alloc, run.locals.as_slice(), operand.items())?;
+    let number = value(stack, run.locals.as_slice(), operand.items())?;
     let slot = slot as usize;
     if slot < run.locals.len() {
         run.locals[slot] = number;
@@ -103,7 +102,7 @@ fn store(
 }
 
 fn unless(
-    alloc: Global,
+    stack: &mut Stack,
     run: &mut Runner,
     line: u32,
     cond: &Operand,
@@ -116,7 +115,7 @@ fn unless(
     if full {
         return Ok(Stepped::Acts(Act::Spend { line }));
     }
-    if value(alloc, run.locals.as_slice(), cond.items())? == 0 {
+    if value(stack, run.locals.as_slice(), cond.items())? == 0 {
         run.pc = other;
     } else {
         run.pc += 1;
@@ -125,7 +124,7 @@ fn unless(
 }
 
 fn enter(
-    alloc: Global,
+    stack: &mut Stack,
     run: &mut Runner,
     line: u32,
     cond: &Operand,
@@ -138,7 +137,7 @@ fn enter(
     if full {
         return Ok(Stepped::Acts(Act::Spend { line }));
     }
-    if value(alloc, run.locals.as_slice(), cond.items())? == 0 {
+    if value(stack, run.locals.as_slice(), cond.items())? == 0 {
         run.pc = out;
     } else {
         run.pc += 1;
@@ -147,7 +146,7 @@ fn enter(
 }
 
 fn turn(
-    alloc: Global,
+    stack: &mut Stack,
     run: &mut Runner,
     line: u32,
     cond: &Operand,
@@ -160,7 +159,7 @@ fn turn(
     if full {
         return Ok(Stepped::Acts(Act::Spend { line }));
     }
-    if value(alloc, run.locals.as_slice(), cond.items())? == 0 {
+    if value(stack, run.locals.as_slice(), cond.items())? == 0 {
         run.pc += 1;
     } else {
         run.pc = back;
@@ -169,7 +168,7 @@ fn turn(
 }
 
 fn counts(
-    alloc: Global,
+    stack: &mut Stack,
     run: &mut Runner,
     line: u32,
     operand: &Operand,
@@ -182,7 +181,7 @@ fn counts(
     if full {
         return Ok(Stepped::Acts(Act::Spend { line }));
     }
-    let number = value(alloc, run.locals.as_slice(), operand.items())?;
+    let number = value(stack, run.locals.as_slice(), operand.items())?;
     if number == 0 {
         run.pc = out;
         return Ok(Stepped::Went);
@@ -279,24 +278,29 @@ fn joinstep(run: &mut Runner, line: u32, slot: u32, full: bool) -> Stepped
     Stepped::Acts(Act::JoinStep { line, child })
 }
 
-/// Executes one instruction; `full` says that no local statement may be executed before the next act.
-pub fn step(alloc: Global, run: &mut Runner, instr: &Instr, full: bool) -> Result<Stepped, Memory>
+/// Executes one instruction, and works its operand out on the stack; `full` says that no local statement may be executed before the next act.
+pub fn step(
+    stack: &mut Stack,
+    run: &mut Runner,
+    instr: &Instr,
+    full: bool,
+) -> Result<Stepped, Memory>
     requires place { run.old.pc < u32.MAX }
     requires forks { run.old.forks < u32.MAX }
     requires path { IsFork instr.now → length run.old.path < 8 }
     ensures { IfOk result (λ r. IsStep full run.old instr.now r run.new) }
 {
     match instr {
-        Instr::Poke { line, port, value } => poke(alloc, run, *line, *port, value, full),
+        Instr::Poke { line, port, value } => poke(stack, run, *line, *port, value, full),
         Instr::Peek { line, port, into } => Ok(peek(run, *line, *port, *into, full)),
-        Instr::Expect { line, port, value } => expect(alloc, run, *line, *port, value, full),
+        Instr::Expect { line, port, value } => expect(stack, run, *line, *port, value, full),
         Instr::Step { line, count } => Ok(arrive(run, *line, *count, full)),
-        Instr::Store { line, slot, value } => store(alloc, run, *line, *slot, value, full),
-        Instr::Unless { line, cond, other } => unless(alloc, run, *line, cond, *other, full),
+        Instr::Store { line, slot, value } => store(stack, run, *line, *slot, value, full),
+        Instr::Unless { line, cond, other } => unless(stack, run, *line, cond, *other, full),
         Instr::Goto { to } => Ok(goto(run, *to, full)),
-        Instr::Enter { line, cond, out } => enter(alloc, run, *line, cond, *out, full),
-        Instr::Turn { line, cond, back } => turn(alloc, run, *line, cond, *back, full),
-        Instr::Count { line, count, out } => counts(alloc, run, *line, count, *out, full),
+        Instr::Enter { line, cond, out } => enter(stack, run, *line, cond, *out, full),
+        Instr::Turn { line, cond, back } => turn(stack, run, *line, cond, *back, full),
+        Instr::Count { line, count, out } => counts(stack, run, *line, count, *out, full),
         Instr::Again { line, back } => again(run, *line, *back, full),
         Instr::Fork {
             line,

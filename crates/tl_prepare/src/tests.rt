@@ -287,6 +287,41 @@ fn codes_are_compared(rt: HostRuntime) -> Result<(), Fail> {
     Ok(())
 }
 
+/// The places of the instructions that are read for the first act, as they are listed.
+fn places_read(alloc: Global, text: &[u8]) -> Option<Vec<u32>> {
+    let code = code_of(alloc, text)?;
+    let prepared = first_action(alloc, &code)?;
+    let mut places = Vec::new(alloc);
+    for fetched in prepared.fetched() {
+        places.push(fetched.pc).ok()?;
+    }
+    Some(places)
+}
+
+/// In each turn the loop goes another way, at lower places than in the turn before.
+#[test]
+fn a_loop_goes_other_ways(rt: HostRuntime) -> Result<(), Fail> {
+    let text = b"let v = 3;
+while v {
+  if v == 1 { set v = 0; } else { if v == 2 { set v = 1; } else { set v = 2; } }
+}
+poke a = v;";
+    let places = places_read(rt.alloc(), text).ok_or("refused")?;
+    assert_eq!(rt;
+        places.as_slice(),
+        [0, 1, 2, 3, 4, 5, 6, 7, 8, 9, 10].as_slice()
+    );
+    Ok(())
+}
+
+#[test]
+fn each_place_is_listed_once(rt: HostRuntime) -> Result<(), Fail> {
+    let text = b"let v = 0; while v < 20000 { set v = v + 1; } poke a = v; poke a = 0;";
+    let places = places_read(rt.alloc(), text).ok_or("refused")?;
+    assert_eq!(rt; places.as_slice(), [0, 1, 2, 3, 4].as_slice());
+    Ok(())
+}
+
 /// Statements of most kinds.
 const MIXED: &[u8] = b"let v = 3 * 4 + 1;
 set v = v - 1;
@@ -296,13 +331,19 @@ fork w { while v { set v = v - v; } }
 join w;
 ";
 
-/// A text near the limit of a test's length.
-fn long_text(alloc: Global) -> Result<Vec<u8>, Memory> {
+/// A text of so many bytes, or a few less.
+fn long_text(alloc: Global, bytes: usize) -> Result<Vec<u8>, Memory> {
     let mut text = Vec::new(alloc);
-    for _ in 0..TEXT_LIMIT / MIXED.len() {
+    for _ in 0..bytes / MIXED.len() {
         put(&mut text, MIXED)?;
     }
     Ok(text)
+}
+
+/// The code of a text of so many bytes, or a few less.
+fn long_code(alloc: Global, bytes: usize) -> Option<Code> {
+    let text = long_text(alloc, bytes).ok()?;
+    code_of(alloc, text.as_slice())
 }
 
 /// What the tests of long runs take beside their work.
@@ -335,10 +376,119 @@ fn a_long_loop(rt: HostRuntime) -> Result<(), Fail> {
     Ok(())
 }
 
-/// The code of a long test.
-fn long_code(alloc: Global) -> Option<Code> {
-    let text = long_text(alloc).ok()?;
+/// Ten acts, with 585,022 local statements before them: in each turn of the loop are two statements, and a third in each second.
+#[test]
+fn a_long_loop_of_statements(rt: HostRuntime) -> Result<(), Fail> {
+    let text = b"let v = 0; let w = 0;
+while 1 {
+  repeat 13000 { set v = v + 1; set w = w * 3 + v; if v & 1 { set w = w ^ v; } }
+  poke a = v;
+}";
+    let code = code_of(rt.alloc(), text).ok_or("refused")?;
+    let number = tenth_number(rt.alloc(), &code).ok_or("no number")?;
+    assert_eq!(rt; number, 130_000);
+    Ok(())
+}
+
+/// A statement that goes two ways by each bit of `v`, so many bits deep, and at the end of each way counts in `w`.
+fn ways(alloc: Global, bits: u32) -> Result<Vec<u8>, Memory> {
+    let mut text = Vec::from_slice(alloc, b"set w=w+1;")?;
+    for turn in 0..bits {
+        let way = text;
+        text = Vec::from_slice(alloc, b"if v>>")?;
+        put_decimal(alloc, &mut text, u128::from(bits - 1 - turn))?;
+        put(&mut text, b"&1{")?;
+        put(&mut text, way.as_slice())?;
+        put(&mut text, b"}else{")?;
+        put(&mut text, way.as_slice())?;
+        put(&mut text, b"}")?;
+    }
+    Ok(text)
+}
+
+/// The code of a loop that goes each of 4,096 ways once, which takes 61,443 local statements.
+fn code_of_ways(alloc: Global) -> Option<Code> {
+    let mut text = Vec::from_slice(alloc, b"let v=4096; let w=0; while v {").ok()?;
+    put(&mut text, ways(alloc, 12).ok()?.as_slice()).ok()?;
+    put(&mut text, b"set v=v-1;} poke a=w;").ok()?;
     code_of(alloc, text.as_slice())
+}
+
+/// The number of the first act, and how many instructions are read for it.
+fn first_number(alloc: Global, code: &Code) -> Option<(u128, usize)> {
+    let prepared = first_action(alloc, code)?;
+    Some((number(prepared.act())?, prepared.fetched().len()))
+}
+
+/// Each instruction but the last one, the end, is read, and is listed once.
+#[test]
+fn a_loop_of_many_ways(rt: HostRuntime) -> Result<(), Fail> {
+    let code = code_of_ways(rt.alloc()).ok_or("refused")?;
+    let (number, count) = first_number(rt.alloc(), &code).ok_or("no number")?;
+    assert_eq!(rt; number, 4096);
+    assert_eq!(rt; code.placed().len().saturating_sub(count), 1);
+    Ok(())
+}
+
+/// The first action is worked out twenty times; how many instructions are read for it.
+fn prepared_again(alloc: Global, code: &Code) -> Option<usize> {
+    let mut count = 0;
+    for _ in 0..20 {
+        count = first_action(alloc, code)?.fetched().len();
+    }
+    Some(count)
+}
+
+#[test]
+fn a_loop_of_many_ways_again_and_again(rt: HostRuntime) -> Result<(), Fail> {
+    let code = code_of_ways(rt.alloc()).ok_or("refused")?;
+    let count = prepared_again(rt.alloc(), &code).ok_or("memory")?;
+    assert_eq!(rt; code.placed().len().saturating_sub(count), 1);
+    Ok(())
+}
+
+/// The code of a test without branches, whose one act comes behind so many local statements and one.
+fn straight_code(alloc: Global, count: u32) -> Option<Code> {
+    let mut text = Vec::from_slice(alloc, b"let v=0;\n").ok()?;
+    for turn in 0..count {
+        put(&mut text, b"set v=v+").ok()?;
+        put_decimal(alloc, &mut text, u128::from(turn)).ok()?;
+        put(&mut text, b";\n").ok()?;
+    }
+    put(&mut text, b"poke a=v;").ok()?;
+    code_of(alloc, text.as_slice())
+}
+
+#[test]
+fn a_straight_test(rt: HostRuntime) -> Result<(), Fail> {
+    let code = straight_code(rt.alloc(), 15_000).ok_or("refused")?;
+    let (number, count) = first_number(rt.alloc(), &code).ok_or("no number")?;
+    assert_eq!(rt; (number, count), (112_492_500, 15_002));
+    Ok(())
+}
+
+#[test]
+fn a_straight_test_again_and_again(rt: HostRuntime) -> Result<(), Fail> {
+    let code = straight_code(rt.alloc(), 15_000).ok_or("refused")?;
+    let count = prepared_again(rt.alloc(), &code).ok_or("memory")?;
+    assert_eq!(rt; count, 15_002);
+    Ok(())
+}
+
+#[test]
+fn half_a_straight_test(rt: HostRuntime) -> Result<(), Fail> {
+    let code = straight_code(rt.alloc(), 7_500).ok_or("refused")?;
+    let (number, count) = first_number(rt.alloc(), &code).ok_or("no number")?;
+    assert_eq!(rt; (number, count), (28_121_250, 7_502));
+    Ok(())
+}
+
+#[test]
+fn half_a_straight_test_again_and_again(rt: HostRuntime) -> Result<(), Fail> {
+    let code = straight_code(rt.alloc(), 7_500).ok_or("refused")?;
+    let count = prepared_again(rt.alloc(), &code).ok_or("memory")?;
+    assert_eq!(rt; count, 7_502);
+    Ok(())
 }
 
 /// Compiles a test twenty times, and counts the instructions.
@@ -353,15 +503,30 @@ fn compiled_again(alloc: Global, test: &CoreTest) -> Option<usize> {
 /// A long test is read, checked and compiled.
 #[test]
 fn a_long_test(rt: HostRuntime) -> Result<(), Fail> {
-    let code = long_code(rt.alloc()).ok_or("refused")?;
+    let code = long_code(rt.alloc(), TEXT_LIMIT).ok_or("refused")?;
     assert!(rt; code.placed().len() > 20_000);
+    Ok(())
+}
+
+#[test]
+fn half_a_long_test(rt: HostRuntime) -> Result<(), Fail> {
+    let code = long_code(rt.alloc(), TEXT_LIMIT / 2).ok_or("refused")?;
+    assert!(rt; code.placed().len() > 10_000);
     Ok(())
 }
 
 /// A long test is read and checked, and compiled 21 times.
 #[test]
 fn a_long_test_again_and_again(rt: HostRuntime) -> Result<(), Fail> {
-    let code = long_code(rt.alloc()).ok_or("refused")?;
+    let code = long_code(rt.alloc(), TEXT_LIMIT).ok_or("refused")?;
+    let count = compiled_again(rt.alloc(), code.test()).ok_or("memory")?;
+    assert_eq!(rt; count, code.placed().len());
+    Ok(())
+}
+
+#[test]
+fn half_a_long_test_again_and_again(rt: HostRuntime) -> Result<(), Fail> {
+    let code = long_code(rt.alloc(), TEXT_LIMIT / 2).ok_or("refused")?;
     let count = compiled_again(rt.alloc(), code.test()).ok_or("memory")?;
     assert_eq!(rt; count, code.placed().len());
     Ok(())

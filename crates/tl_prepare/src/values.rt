@@ -6,13 +6,13 @@ ghost use Rattle.tl_threads.specs.Machine.{taken, stacked};
 
 use smallvec::SmallVec;
 use sqlite_items::at;
-use std::alloc::Global;
 use tb_base::Memory;
 use tl_ast::TestOp;
 use tl_threads::code::Item;
 
-/// The numbers of an operand that is worked out, the topmost last. Up to eight stand in place.
-type Stack = SmallVec<u128, 8>;
+/// The numbers of an operand that is worked out, the topmost last. An expression has at most 64 operators with two sides, so its numbers
+/// are at most 65: all stand in place, and no memory is taken.
+pub type Stack = SmallVec<u128, 65>;
 
 fn bit(holds: bool) -> u128
     ensures { result ≡ values.bit holds }
@@ -104,13 +104,24 @@ fn work(locals: &[u128], stack: &mut Stack, item: Item) -> Result<(), Memory>
     }
 }
 
-/// The number of an operand over these slots.
-pub fn value(alloc: Global, locals: &[u128], items: &[Item]) -> Result<u128, Memory>
+/// The number of an operand whose items are worked one by one.
+fn worked_out(stack: &mut Stack, locals: &[u128], items: &[Item]) -> Result<u128, Memory>
     ensures { IfOk result (λ number. number ≡ taken locals.now items.now) }
 {
-    let mut stack = Stack::new(alloc);
+    stack.clear();
     for item in items {
-        work(locals, &mut stack, *item)?;
+        work(locals, stack, *item)?;
     }
     Ok(stack.pop().unwrap_or(0))
+}
+
+/// The number of an operand over these slots, worked out on a stack whatever it held. A lone number or slot needs none.
+pub fn value(stack: &mut Stack, locals: &[u128], items: &[Item]) -> Result<u128, Memory>
+    ensures { IfOk result (λ number. number ≡ taken locals.now items.now) }
+{
+    match items {
+        [Item::Number(number)] => Ok(*number),
+        [Item::Slot(slot)] => Ok(local(locals, *slot)),
+        _ => worked_out(stack, locals, items),
+    }
 }

@@ -1,6 +1,6 @@
 use Rattle.std.proofs.lemmas.List.{take_more}
 use Rattle.tl_prepare.proofs.Stacks.{worked_on}
-use Rattle.tl_prepare.proofs.values.value.Goals as goal
+use Rattle.tl_prepare.proofs.values.worked_out.Goals as goal
 
 pub loop-item-preserved : goal.loop-item-preserved
 loop-item-preserved c =
