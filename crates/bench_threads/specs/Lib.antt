@@ -4,3 +4,4 @@ pub mod Threads
 pub mod Queues
 pub mod Houses
 pub mod Tables
+pub mod Examples
