@@ -11,3 +11,6 @@ mod table;
 
 pub use entry::{Entry, Mode};
 pub use table::ThreadTable;
+
+#[cfg(test)]
+mod tests;
