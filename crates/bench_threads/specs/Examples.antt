@@ -1,5 +1,5 @@
 -- Small threads, for worked examples.
-use Rattle.std.specs.Prelude.{ℕ, List, [], ◌∷◌, false, Option, None}
+use Rattle.std.specs.Prelude.{[], false, None}
 use Rattle.tb_base.specs.declared.path.Region.{Region}
 use Rattle.bench_model.specs.Paths.{Path}
 use Rattle.bench_threads.specs.declared.entry.Entry.{Entry}
