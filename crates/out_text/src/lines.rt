@@ -56,14 +56,14 @@ fn put_wanted(
 }
 
 /// Puts where a record was made.
-fn put_where(alloc: Global, out: &mut Vec<u8>, observation: &Observation) -> Result<(), Memory>
-    ensures { OnOk result (out.new.items ≡ out.old.items ++ where_text observation.now) }
+fn put_where(alloc: Global, out: &mut Vec<u8>, record: &Observation) -> Result<(), Memory>
+    ensures { OnOk result (out.new.items ≡ out.old.items ++ where_text record.now) }
 {
-    put_decimal(alloc, out, u128::from(observation.time))?;
+    put_decimal(alloc, out, u128::from(record.time))?;
     put(out, b" ")?;
-    put_path(alloc, out, &observation.path)?;
+    put_path(alloc, out, &record.path)?;
     put(out, b" ")?;
-    put_decimal(alloc, out, u128::from(observation.line))?;
+    put_decimal(alloc, out, u128::from(record.line))?;
     Ok(())
 }
 
@@ -83,17 +83,17 @@ fn put_seen(
     alloc: Global,
     out: &mut Vec<u8>,
     signals: &[SignalInfo],
-    observation: &Observation,
+    record: &Observation,
 ) -> Result<(), Memory>
-    ensures { OnOk result (out.new.items ≡ out.old.items ++ seen_text (info signals.now observation.now.port.0) observation.now) }
+    ensures { OnOk result (out.new.items ≡ out.old.items ++ seen_text (info signals.now record.now.port.0) record.now) }
 {
-    let (name, signed) = port_of(signals, observation.port.0 as usize);
-    put(out, verb(observation.wanted))?;
+    let (name, signed) = port_of(signals, record.port.0 as usize);
+    put(out, verb(record.wanted))?;
     put(out, b" ")?;
     put(out, name)?;
     put(out, b" = ")?;
-    put_number(alloc, out, signed, observation.value)?;
-    put_wanted(alloc, out, signed, observation.wanted)?;
+    put_number(alloc, out, signed, record.value)?;
+    put_wanted(alloc, out, signed, record.wanted)?;
     Ok(())
 }
 
@@ -102,13 +102,13 @@ fn put_record(
     alloc: Global,
     out: &mut Vec<u8>,
     signals: &[SignalInfo],
-    observation: &Observation,
+    record: &Observation,
 ) -> Result<(), Memory>
-    ensures { OnOk result (out.new.items ≡ out.old.items ++ record_text signals.now observation.now) }
+    ensures { OnOk result (out.new.items ≡ out.old.items ++ record_text signals.now record.now) }
 {
-    put_where(alloc, out, observation)?;
+    put_where(alloc, out, record)?;
     put(out, b" ")?;
-    put_seen(alloc, out, signals, observation)?;
+    put_seen(alloc, out, signals, record)?;
     put(out, b"\n")?;
     Ok(())
 }
