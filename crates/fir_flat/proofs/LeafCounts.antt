@@ -5,7 +5,7 @@ use Rattle.std.specs.List.{range_with_len, flat_map}
 use Rattle.fir_flat.specs.Shapes.{Shape, ground, clock, empty, field, vector, size, leaves, in_field, in_element, field_named, element, partners, LeavesCounted}
 
 -- n lists of s items each
-copies : {A : Type 0} (g : ℕ → List A) (s : ℕ) → ((k : ℕ) → length (g k) ≡ s) → (n a : ℕ) → length (flat_map g (range_with_len a n)) ≡ n * s
+pub copies : {A : Type 0} (g : ℕ → List A) (s : ℕ) → ((k : ℕ) → length (g k) ≡ s) → (n a : ℕ) → length (flat_map g (range_with_len a n)) ≡ n * s
 copies g s h zero a = omega arith
 copies g s h (suc n) a =
     let e : length (g a ++ flat_map g (range_with_len (a + 1) n)) ≡ length (g a) + length (flat_map g (range_with_len (a + 1) n))

@@ -1,16 +1,17 @@
 -- Ground parts without their names, field by field and element by element.
 use mathlib.Core.Bool.{beq}
-use Rattle.std.proofs.Common.{ℕ, ◌≡◌, ◌+◌, ◌*◌, ◌<◌, ◌∙◌, length, get_or, drop, Bool, true, false, not, List, ◌∷◌, ◌++◌, map, refl, sym, ap, append_assoc, add_assoc}
+use Rattle.std.proofs.Common.{ℕ, ◌≡◌, ◌+◌, ◌*◌, ◌<◌, ◌∙◌, length, get_or, drop, Bool, true, false, not, List, [], ◌∷◌, ◌++◌, map, refl, sym, ap, append_assoc, add_assoc, arith, length-append}
 use Rattle.std.proofs.Math.Path.{fun_ext}
-use Rattle.std.proofs.lemmas.List.{map-append, drop_more}
+use Rattle.std.proofs.lemmas.List.{map-append, drop_more, length-map, nil_from_length, append-nil}
 use Rattle.std.specs.List.{range_with_len, flat_map}
 use Rattle.fir_ast.specs.declared.tree.Ty.TheViews.{out-Field}
 use Rattle.fir_ast.specs.declared.tree.Field.{Field}
 use Rattle.fir_ast.specs.declared.tree.Port.{Port}
 use Rattle.fir_check.specs.Types.{same}
 use Rattle.fir_flat.specs.declared.parts.Part.{Part}
-use Rattle.fir_flat.specs.Shapes.{Shape, shape_of, fields_shape, ports_shape, field, size, element, field_named, Leaf, leaves, in_field, in_element, partners}
+use Rattle.fir_flat.specs.Shapes.{Shape, shape_of, fields_shape, ports_shape, field, vector, size, element, field_named, Leaf, leaves, in_field, in_element, partners}
 use Rattle.fir_flat.specs.Parts.{turned_part, turned_parts, partners_behind}
+use Rattle.fir_flat.proofs.LeafCounts.{copies}
 use Rattle.fir_flat.proofs.Rolled.{field-parts}
 use Rattle.fir_flat.proofs.Ranges.{map_map, joined_more}
 
@@ -43,6 +44,17 @@ parts_in_front flip other name t rest =
 pub written_more : {X : Type 0} (old new part left whole : List X) → new ≡ old ++ part → old ++ (part ++ left) ≡ whole → new ++ left ≡ whole
 written_more old new part left whole e h = ap (λ xs. xs ++ left) e ∙ append_assoc old part left ∙ h
 
+-- where one element gives nothing, none does
+pub no_elements : {X Y : Type 0} (f : X → Y) (g : ℕ → List X) (n m : ℕ) (before old new own : List Y) → ((k : ℕ) → length (g k) ≡ length own)
+    → old ≡ before ++ map f (flat_map g (range_with_len 0 n)) → new ≡ old ++ own → length new ≡ length old
+    → new ≡ before ++ map f (flat_map g (range_with_len 0 m))
+no_elements f g n m before old new own each e h same_length =
+    let a : length new ≡ length old + length own = ap length h ∙ length-append old own in
+    let z : length own ≡ 0 = omega (arith, a, same_length) in
+    let none : (k : ℕ) → flat_map g (range_with_len 0 k) ≡ []
+    = λ k. nil_from_length (flat_map g (range_with_len 0 k)) (let c : length (flat_map g (range_with_len 0 k)) ≡ k * 0 = copies g 0 (λ j. each j ∙ z) k 0 in omega (arith, c)) in
+    h ∙ ap (λ xs. old ++ xs) (nil_from_length own z) ∙ append-nil old ∙ e ∙ ap (λ xs. before ++ map f xs) (none n ∙ sym (none m))
+
 parts-element : (flip : Bool) (k : ℕ) (ls : List Leaf) → map (turned_part flip) (map (in_element k) ls) ≡ map (turned_part flip) ls
 parts-element flip k ls = map_map (turned_part flip) (in_element k) ls
 
@@ -57,6 +69,15 @@ element_more flip t n before old new e h =
     ap (λ xs. map (turned_part flip) elements ++ xs) (sym (parts-element flip n (leaves t)))
     ∙ sym (map-append (turned_part flip) elements (map (in_element n) (leaves t)))
     ∙ ap (map (turned_part flip)) (sym (joined_more (λ k. map (in_element k) (leaves t)) n)))
+
+-- a vector whose elements have none
+pub no_element_parts : (flip : Bool) (t : Shape) (n m : ℕ) (before old new : List Part)
+    → old ≡ before ++ map (turned_part flip) (flat_map (λ k. map (in_element k) (leaves t)) (range_with_len 0 n))
+    → new ≡ old ++ turned_parts flip t → length new ≡ length old
+    → new ≡ before ++ turned_parts flip (vector t m)
+no_element_parts flip t n m before old new =
+    no_elements (turned_part flip) (λ k. map (in_element k) (leaves t)) n m before old new (turned_parts flip t)
+    (λ k. length-map (leaves t) (in_element k) ∙ sym (length-map (leaves t) (turned_part flip)))
 
 -- counterparts
 
@@ -82,6 +103,15 @@ partner_more start t u n before old new e h =
     ap (λ xs. map (λ k. start + k) elements ++ xs) (sym (shifted start (n * size (element u)) (partners t (element u))))
     ∙ sym (map-append (λ k. start + k) elements (map (λ k. n * size (element u) + k) (partners t (element u))))
     ∙ ap (map (λ k. start + k)) (sym (joined_more (λ i. map (λ k. i * size (element u) + k) (partners t (element u))) n)))
+
+pub no_element_partners : (start : ℕ) (t u : Shape) (n m : ℕ) (before old new : List ℕ)
+    → old ≡ before ++ map (λ k. start + k) (flat_map (λ i. map (λ k. i * size (element u) + k) (partners t (element u))) (range_with_len 0 n))
+    → new ≡ old ++ partners_behind (start + n * size (element u)) t (element u) → length new ≡ length old
+    → new ≡ before ++ partners_behind start (vector t m) u
+no_element_partners start t u n m before old new =
+    no_elements (λ k. start + k) (λ i. map (λ k. i * size (element u) + k) (partners t (element u))) n m before old new
+    (partners_behind (start + n * size (element u)) t (element u))
+    (λ i. length-map (partners t (element u)) (λ k. i * size (element u) + k) ∙ sym (length-map (partners t (element u)) (λ k. start + n * size (element u) + k)))
 
 -- loops over fields and ports
 

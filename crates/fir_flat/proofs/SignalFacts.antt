@@ -2,7 +2,7 @@
 use mathlib.Core.Bool.{beq}
 use Rattle.std.proofs.Common.{ℕ, ◌≡◌, ◌+◌, ◌<◌, ◌∙◌, Bool, false, not, if◌then◌else◌, List, ◌++◌, map, length, get_or, drop, codes, decimal, sym, ap, ap₂, append_assoc, None}
 use Rattle.std.proofs.Math.Path.{fun_ext}
-use Rattle.std.proofs.lemmas.List.{map-append}
+use Rattle.std.proofs.lemmas.List.{map-append, length-map}
 use Rattle.std.specs.List.{range_with_len, flat_map}
 use Rattle.fir_ast.specs.declared.tree.Ty.TheViews.{out-Field}
 use Rattle.fir_ast.specs.declared.tree.Field.{Field}
@@ -10,11 +10,11 @@ use Rattle.fir_ast.specs.declared.tree.Port.{Port}
 use Rattle.fir_flat.specs.Elaboration.{Entry, made}
 use Rattle.fir_check.specs.Types.{same}
 use Rattle.fir_flat.specs.declared.signals.Declared.{Declared}
-use Rattle.fir_flat.specs.Shapes.{Shape, shape_of, fields_shape, ports_shape, Leaf, leaves, in_field, in_element}
+use Rattle.fir_flat.specs.Shapes.{Shape, vector, shape_of, fields_shape, ports_shape, Leaf, leaves, in_field, in_element}
 use Rattle.fir_flat.specs.Signals.{entry_of, signals_of}
 use Rattle.fir_flat.proofs.Rolled.{field-parts}
 use Rattle.fir_flat.proofs.Ranges.{map_map, joined_more}
-use Rattle.fir_flat.proofs.PartFacts.{written_more, against_twice, beq_same, outward, next_dropped}
+use Rattle.fir_flat.proofs.PartFacts.{written_more, no_elements, against_twice, beq_same, outward, next_dropped}
 
 abbrev info_at : Declared → List ℕ → Bool → Leaf → Entry
 info_at d name against l = made (record {
@@ -73,6 +73,15 @@ element_signals_more d name flip t n before old new e h =
     ap (λ xs. map (entry_of d name flip) elements ++ xs) (sym (signals-element d name flip n (leaves t)))
     ∙ sym (map-append (entry_of d name flip) elements (map (in_element n) (leaves t)))
     ∙ ap (map (entry_of d name flip)) (sym (joined_more (λ k. map (in_element k) (leaves t)) n)))
+
+-- a vector whose elements have no ground parts
+pub no_element_signals : (d : Declared) (name inner : List ℕ) (flip : Bool) (t : Shape) (n m : ℕ) (before old new : List Entry)
+    → old ≡ before ++ map (entry_of d name flip) (flat_map (λ k. map (in_element k) (leaves t)) (range_with_len 0 n))
+    → new ≡ old ++ signals_of d inner flip t → length new ≡ length old
+    → new ≡ before ++ signals_of d name flip (vector t m)
+no_element_signals d name inner flip t n m before old new =
+    no_elements (entry_of d name flip) (λ k. map (in_element k) (leaves t)) n m before old new (signals_of d inner flip t)
+    (λ k. length-map (leaves t) (in_element k) ∙ sym (length-map (leaves t) (entry_of d inner flip)))
 
 pub port_signals_more : (d : Declared) (name : List ℕ) (ps : List Port) (i : ℕ) (p : Port) (old new whole : List Entry)
     → i < length ps → p ≡ get_or ps i p → new ≡ old ++ signals_of d (name ++ (codes "." ++ p.name)) (not p.output) (shape_of p.ty)

@@ -13,7 +13,8 @@ use std::alloc::Global;
 use tb_base::Memory;
 
 /// Adds the counterparts of a type's ground parts in another type, which stands behind so many
-/// ground parts.
+/// ground parts. A vector is left behind an element that has none, since then no element has any; what
+/// a vector of no elements is of isn't counted, since that may be past any limit.
 #[cycle(partners)]
 fn put_partners(ty: &Ty, other: Kind, before: u32, out: &mut Vec<u32>) -> Result<(), Memory>
     ensures { OnOk result (out.new.items ≡ out.old.items ++ partners_behind before (shape_of ty.now) (kind_shape other.entry)) }
@@ -25,11 +26,18 @@ fn put_partners(ty: &Ty, other: Kind, before: u32, out: &mut Vec<u32>) -> Result
         Ty::Reset => put_partner(before, out),
         Ty::Bundle(fields) => put_field_partners(fields.as_slice(), other, before, out),
         Ty::Vector(of, len) => {
+            if *len == 0 {
+                return Ok(());
+            }
             let element = other.element();
             let size = exact(element.size())?;
             for number in 0..*len {
                 let place = plus(before, times(number, size)?)?;
+                let so_far = out.len();
                 put_partners(of.get(), element, place, out)?;
+                if out.len() == so_far {
+                    return Ok(());
+                }
             }
             Ok(())
         }
@@ -78,9 +86,9 @@ fn put_port_partners(ports: &[Port], other: Kind, out: &mut Vec<u32>) -> Result<
     Ok(())
 }
 
-/// The places of the counterparts of a type's ground parts in another. The time is linear in their
-/// number and in the size of the first type's text, but where a bundle in the other one has no number:
-/// there each of its fields is looked for.
+/// The places of the counterparts of a type's ground parts in another. The time is linear in the size of
+/// the first type's text, and for each element that has ground parts in the size of the text of its
+/// type, but where a bundle in the other one has no number: there each of its fields is looked for.
 pub(crate) fn partners_of(alloc: Global, kind: Kind, other: Kind) -> Result<Vec<u32>, Memory>
     ensures { IfOk result (λ places. places.items ≡ partners (kind_shape kind.entry) (kind_shape other.entry)) }
 {

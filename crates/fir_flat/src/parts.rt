@@ -18,8 +18,9 @@ pub(crate) struct Part {
     pub(crate) width: Option<u8>,
 }
 
-/// Adds the ground parts of a type, which is itself flipped or not. The time is linear in their
-/// number and the size of the type's text.
+/// Adds the ground parts of a type, which is itself flipped or not. A vector is left behind an element
+/// that has none, since then no element has any. The time is linear in the size of the type's text, and
+/// for each element that has ground parts in the size of the text of its type.
 #[cycle(parts)]
 fn put_parts(ty: &Ty, flip: bool, out: &mut Vec<Part>) -> Result<(), Memory>
     ensures { OnOk result (out.new.items ≡ out.old.items ++ turned_parts flip (shape_of ty.now)) }
@@ -32,7 +33,11 @@ fn put_parts(ty: &Ty, flip: bool, out: &mut Vec<Part>) -> Result<(), Memory>
         Ty::Bundle(fields) => put_fields(fields.as_slice(), flip, out),
         Ty::Vector(of, len) => {
             for _ in 0..*len {
+                let before = out.len();
                 put_parts(of.get(), flip, out)?;
+                if out.len() == before {
+                    return Ok(());
+                }
             }
             Ok(())
         }
@@ -74,7 +79,7 @@ fn put_ports(ports: &[Port], out: &mut Vec<Part>) -> Result<(), Memory>
     Ok(())
 }
 
-/// The ground parts of a type. The time is linear in their number and the size of the type's text.
+/// The ground parts of a type. The time is as of `put_parts`.
 pub(crate) fn parts_of_kind(alloc: Global, kind: Kind) -> Result<Vec<Part>, Memory>
     ensures { IfOk result (λ parts. parts.items ≡ turned_parts false (kind_shape kind.entry)) }
 {

@@ -88,8 +88,9 @@ fn put_signal(
     Ok(())
 }
 
-/// Adds the signals of a type, which is itself flipped or not. The time is linear in the length of
-/// their names.
+/// Adds the signals of a type, which is itself flipped or not. A vector is left behind an element that
+/// has none, since then no element has any. The time is linear in the size of the type's text, for each
+/// element that has ground parts in the size of the text of its type, and in the length of the names.
 #[cycle(signals)]
 fn put_signals(
     alloc: Global,
@@ -112,7 +113,11 @@ fn put_signals(
         Ty::Vector(of, len) => {
             for number in 0..*len {
                 let own = element_name(alloc, name, number)?;
+                let before = out.len();
                 put_signals(alloc, declared, &own, flip, of.get(), out)?;
+                if out.len() == before {
+                    return Ok(());
+                }
             }
             Ok(())
         }
@@ -153,7 +158,7 @@ fn put_port_signals(
     Ok(())
 }
 
-/// Adds the signals of a declared name. The time is linear in the length of their names.
+/// Adds the signals of a declared name. The time is as of `put_signals`.
 pub(crate) fn put_kind_signals(
     alloc: Global,
     declared: Declared,
