@@ -1,8 +1,10 @@
-pub mod Checked
-pub mod Computed
-pub mod Devices
-pub mod Kept
-pub mod Outcomes
-pub mod Running
-pub mod Small
+pub mod Going
+pub mod Judged
+pub mod Marks
+pub mod Begun
+pub mod Fresh
+pub mod Handing
+pub mod Rooms
+pub mod GoingOn
 pub mod Taken
+pub mod Given

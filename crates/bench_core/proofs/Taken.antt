@@ -1,216 +1,163 @@
--- The acts of a checked test: which there are, and that they can be taken.
-use Rattle.std.proofs.Common.{◌≡◌, ℕ, suc, ◌+◌, ◌<◌, Bool, true, false, ◌&&◌, if◌then◌else◌, List, [], ◌∷◌, length, Option, Some, None, is_some, is_none, option_map, option_and_then, refl, ap, sym, ◌∙◌, subst, arith}
-use Rattle.std.specs.List.{All}
-use Rattle.std.proofs.lemmas.List.Elements.{All-nil, All-cons, All-head, All-tail}
-use Rattle.std.specs.Str.{bytes_eq}
-use Rattle.net_core.specs.declared.ports.PortInfo.{PortInfo}
+-- The bench when an act was taken and judged.
+use Rattle.std.proofs.Common.{◌≡◌, List, [], ◌∷◌, ◌++◌, true, Option, option_map, refl, sym, ap, subst, ◌∙◌}
 use Rattle.net_core.specs.declared.tree.Elab.{Elab}
-use Rattle.net_core.specs.declared.tree.SignalInfo.{SignalInfo}
-use Rattle.net_core.specs.Ports.{port_named, port_entry, ports_from}
-use Rattle.net_core.specs.Signals.{info, is_input, is_port}
-use Rattle.net_design.specs.Designs.{ports_of}
-use Rattle.tl_ast.specs.declared.tree.TestStmt.{TestStmt}
-use Rattle.tl_ast.specs.declared.tree.TestStmt.TheViews.{out-TestStmt}
-use Rattle.tl_ast.specs.declared.tree.TestStmt.TheOpen as stmt
-use Rattle.tl_ast.specs.declared.tree.TestStmt.TheOpen.{TestStmt-F}
-use Rattle.tl_ast.specs.declared.tree.TestText.{TestText}
-use Rattle.tl_check.specs.Values.{is_missing, goes}
-use Rattle.tl_check.specs.Walk.{test_rule}
-use Rattle.bench_core.specs.declared.act.Act.{Act}
-use Rattle.bench_core.specs.declared.act.Act.TheVariants.{Poke, Peek, Expect, Arrive}
-use Rattle.bench_core.specs.Acts.{plain, poke_of, peek_of, expect_of, is_first_form, in_first_form, act_at, act_of, acts_of, Takes}
-use Rattle.bench_core.proofs.Kept.{IsKept, all_kept}
+use Rattle.net_core.specs.declared.tree.Net.{Net}
+use Rattle.net_design.specs.Designs.{Runs, ports_of}
+use Rattle.order_laws.specs.Runs.{going, runs, run_act, RunEnabled}
+use Rattle.order_laws.proofs.Theorem.{after_append, permitted_append}
+use Rattle.tl_threads.specs.Threads.{Inner}
+use Rattle.tl_code.specs.Compiled.{Compiled}
+use Rattle.tl_prepare.specs.Work.{Work}
+use Rattle.tl_prepare.specs.Given.{IsPrepared}
+use Rattle.bench_model.specs.Paths.{Path}
+use Rattle.bench_model.specs.World.{World, Enabled}
+use Rattle.bench_model.specs.Settle.{steps}
+use Rattle.bench_model.specs.Orders.{RunOf, Result, RealConflicts, Permits, start, replay, run_of}
+use Rattle.bench_setting.specs.declared.limits.Limits.{Limits}
+use Rattle.bench_setting.specs.Limited.{limits_told}
+use Rattle.bench_setting.specs.Settings.{AtEachTest, setting_of}
+use Rattle.bench_run.specs.declared.outcome.Outcome.{Outcome}
+use Rattle.bench_run.specs.Told.{outcome_told}
+use Rattle.bench_threads.specs.Shelves.{Threads}
+use Rattle.bench_threads.specs.Threads.{change, with_mark, unmarked}
+use Rattle.bench_stands.specs.Laws.{EnabledIsTold}
+use Rattle.bench_course.specs.Course.{CourseValue}
+use Rattle.bench_course.specs.Taking.{taken}
+use Rattle.bench_course.specs.Laws.{CourseStands, MarksAndRoomUnseen}
+use Rattle.bench_judge.specs.Judging.{judged}
+use Rattle.bench_judge.specs.Laws.{RunStands, JudgedAs, JudgingIsTold}
+use Rattle.bench_core.specs.Bench.{BenchValue, IsBench, EqualButRoom, setting_in, run_in}
+use Rattle.bench_core.specs.Committing.{Fresh, HasTaken, MayGoOn, Acted}
+use Rattle.bench_core.specs.Laws.{StaysBench, MarksLeaveBenches, FreshMayGoOn, CommitsLeaveBenches}
+use Rattle.bench_core.proofs.Going.{GoesOn, goes_on, run_stands, roomed}
+use Rattle.bench_core.proofs.GoingOn.{may_take, may_act}
+use Rattle.bench_core.proofs.Marks.{mark_at, Leaves, judged_leaves, taken_mark}
 
--- the port is that of one of the signals, which are numbered from k on
-record IsPortOf (k : ℕ) (signals : List SignalInfo) (p : PortInfo) : Type 0 where
-  pub place : ℕ
-  pub within : place < length signals
-  pub number : p.signal.0 ≡ k + place
-  pub input : p.input ≡ is_input (info signals place).role
+-- ---- benches over a circuit
 
-one_further : (k : ℕ) (i : SignalInfo) (signals : List SignalInfo) (p : PortInfo) → IsPortOf (k + 1) signals p
-    → IsPortOf k (i ∷ signals) p
-one_further k i signals p h =
-    let number : p.signal.0 ≡ k + 1 + h.place = h.number in
-    let within : h.place < length signals = h.within in
-    record { place = suc h.place; within = omega arith; number = omega arith; input = h.input }
+-- what a bench has of its run, over a circuit
+pub record HasRun (e : Elab) (l : Limits) (c : Compiled) (o : CourseValue) (order : List Path) (outcome : Option Outcome) : Type 0 where
+  pub permitted : Permits (setting_of e c.test (limits_told l)) order
+  pub stands : RunStands c o (replay (setting_of e c.test (limits_told l)) order)
+  pub ends : option_map outcome_told outcome ≡ option_map (λ (r : Result). r.outcome) (run_of (setting_of e c.test (limits_told l)) (replay (setting_of e c.test (limits_told l)) order))
 
-found_here : (k : ℕ) (i : SignalInfo) (signals : List SignalInfo) (p : PortInfo) (same : Bool) (rest : Option PortInfo)
-    → (rest ≡ Some p → IsPortOf (k + 1) signals p) → (if same then Some (port_entry k i).1 else rest) ≡ Some p
-    → IsPortOf k (i ∷ signals) p
-found_here k i signals p true rest further h =
-    let is : (port_entry k i).1 ≡ p = cc in
-    subst (λ (q : PortInfo). IsPortOf k (i ∷ signals) q) is (record {
-      place = 0;
-      within = omega arith;
-      number = omega arith;
-      input = refl;
-    })
-found_here k i signals p false rest further h = one_further k i signals p (further h)
+-- a bench with the parts of another but for the course, the order and the outcome
+module _ (b n : BenchValue) (is : IsBench b) (limits : n.limits ≡ b.limits) (code : n.code ≡ b.code) (elab : n.course.elab ≡ b.course.elab) (net : n.course.net ≡ b.course.net) where
+  -- the new one, with the old code and limits
+  mixed : BenchValue
+  mixed = record { limits = b.limits; code = b.code; course = n.course; order = n.order; outcome = n.outcome }
 
-found_among : (name : List ℕ) (k : ℕ) (i : SignalInfo) (signals : List SignalInfo) (p : PortInfo) (port : Bool)
-    → (port_named name (ports_from (k + 1) signals) ≡ Some p → IsPortOf (k + 1) signals p)
-    → port_named name (if port then port_entry k i ∷ ports_from (k + 1) signals else ports_from (k + 1) signals) ≡ Some p
-    → IsPortOf k (i ∷ signals) p
-found_among name k i signals p true further h = found_here k i signals p (bytes_eq name i.name) (port_named name (ports_from (k + 1)
-    signals)) further h
-found_among name k i signals p false further h = one_further k i signals p (further h)
+  same_mixed : n ≡ mixed
+  unfolding mixed
+  same_mixed = ap (λ (x : Limits). record n { limits = x }) limits ∙ ap (λ (x : Compiled). record n { limits = b.limits; code = x }) code
 
-found : (name : List ℕ) (k : ℕ) (signals : List SignalInfo) (p : PortInfo) → port_named name (ports_from k signals) ≡ Some p
-    → IsPortOf k signals p
-found name k [] p h = absurd cc
-found name k (i ∷ signals) p h = found_among name k i signals p (is_port i.role) (found name (k + 1) signals p) h
+  pub bench_again : HasRun b.course.elab b.limits b.code n.course n.order n.outcome → IsBench n
+  unfolding mixed
+  bench_again has =
+      let run : HasRun n.course.elab b.limits b.code n.course n.order n.outcome =
+      subst (λ (e : Elab). HasRun e b.limits b.code n.course n.order n.outcome) (sym elab) has in
+      subst (λ (x : BenchValue). IsBench x) (sym same_mixed)
+      (record {
+        runs =
+            subst (λ (e : Elab). Runs e n.course.net) (sym elab) (subst (λ (x : Net). Runs b.course.elab x) (sym net) is.runs);
+        code = is.code;
+        ports = is.ports ∙ ap ports_of (sym elab);
+        step_actions = is.step_actions;
+        run_actions = is.run_actions;
+        permitted = run.permitted;
+        stands = run.stands;
+        ends = run.ends;
+      })
 
--- its number is that of a signal
+-- ---- a commit
 
-in_circuit : (signals : List SignalInfo) (p : PortInfo) → IsPortOf 0 signals p → p.signal.0 < length signals
-in_circuit signals p h =
-    let number : p.signal.0 ≡ 0 + h.place = h.number in
-    let within : h.place < length signals = h.within in
-    omega arith
+module _ (judging : JudgingIsTold) (unseen : MarksAndRoomUnseen) (b : BenchValue) (work : Work) (n : BenchValue) (is : IsBench b) (g : GoesOn b)
+    (prepared : IsPrepared work) (fresh : Fresh b work) (acted : Acted b work n) (enabled : Enabled g.world work.from.path) where
+  -- where the run stands behind the act
+  abbrev pub behind : RunOf (setting_in b)
+  behind = run_act (steps (setting_in b)) (going g.times g.world) work.from.path
 
-is_given : (signals : List SignalInfo) (p : PortInfo) → IsPortOf 0 signals p → p.input ≡ true
-    → is_input (info signals p.signal.0).role ≡ true
-is_given signals p h t =
-    let at : p.signal.0 ≡ h.place = (let number : p.signal.0 ≡ 0 + h.place = h.number in omega arith) in
-    ap (λ x. is_input (info signals x).role) at ∙ (sym h.input ∙ t)
+  told : JudgedAs b.code.test (limits_told b.limits) b.code (judged (limits_told b.limits) (taken b.course work)) behind
+  told = judging b.code.test (limits_told b.limits) b.code b.course g.times g.world work fresh.entry g.stands (may_take b is g work prepared fresh)
 
--- the act of a statement
+  replayed : replay (setting_in b) (b.order ++ work.from.path ∷ []) ≡ behind
+  replayed =
+      after_append (runs (steps (setting_in b))) b.order (work.from.path ∷ []) (start (setting_in b))
+      ∙ ap (λ (r : RunOf (setting_in b)). run_act (steps (setting_in b)) r work.from.path) g.run
 
--- the ports of a name that are found are those of signals
-abbrev Found : Elab → Option PortInfo → Type 0
-Found e o = (p : PortInfo) → o ≡ Some p → IsPortOf 0 e.signals p
+  allowed : Permits (setting_in b) (b.order ++ work.from.path ∷ [])
+  allowed =
+      permitted_append (runs (steps (setting_in b))) b.order (work.from.path ∷ []) (start (setting_in b)) is.permitted
+      (subst (λ (r : RunOf (setting_in b)). RunEnabled (steps (setting_in b)) r work.from.path) (sym g.run) enabled, tt)
 
-poke_taken : (e : Elab) (line : ℕ) (o : Option PortInfo) (n : Option ℕ) (a : Act) → Found e o → goes true o ≡ true
-    → poke_of line o n ≡ Some a → Takes e a
-poke_taken e line None n a port kept is = absurd cc
-poke_taken e line (Some p) None a port kept is = absurd cc
-poke_taken e line (Some p) (Some n) a port kept is =
-    let same : Poke line p.signal n ≡ a = cc in subst (λ (b : Act). Takes e b) same (is_given e.signals p (port p refl) kept)
+  kept : Leaves (taken b.course work) (judged (limits_told b.limits) (taken b.course work)).course
+  kept = judged_leaves (limits_told b.limits) (taken b.course work)
 
-peek_taken : (e : Elab) (line : ℕ) (o : Option PortInfo) (into : Option (List ℕ)) (a : Act) → Found e o → peek_of line o into ≡ Some a
-    → Takes e a
-peek_taken e line None into a port is = absurd cc
-peek_taken e line (Some p) (Some v) a port is = absurd cc
-peek_taken e line (Some p) None a port is =
-    let same : Peek line p.signal ≡ a = cc in subst (λ (b : Act). Takes e b) same (in_circuit e.signals p (port p refl))
+  elab_kept : n.course.elab ≡ b.course.elab
+  elab_kept = ap (λ (v : CourseValue). v.elab) acted.course ∙ kept.elab
 
-expect_taken : (e : Elab) (line : ℕ) (o : Option PortInfo) (n : Option ℕ) (a : Act) → Found e o → expect_of line o n ≡ Some a → Takes e a
-expect_taken e line None n a port is = absurd cc
-expect_taken e line (Some p) None a port is = absurd cc
-expect_taken e line (Some p) (Some n) a port is =
-    let same : Expect line p.signal n ≡ a = cc in subst (λ (b : Act). Takes e b) same (in_circuit e.signals p (port p refl))
+  net_kept : n.course.net ≡ b.course.net
+  net_kept = ap (λ (v : CourseValue). v.net) acted.course ∙ kept.net
 
-act_taken : (e : Elab) (x : TestStmt-F TestStmt) (a : Act) → IsKept (ports_of e) x → act_at (ports_of e) x ≡ Some a → Takes e a
-act_taken e (stmt.Poke line port value) a kept is = poke_taken e line (port_named port (ports_of e)) (plain value) a (λ p. found port 0
-    e.signals p) kept is
-act_taken e (stmt.Peek line port into) a kept is = peek_taken e line (port_named port (ports_of e)) into a (λ p. found port 0 e.signals p)
-    is
-act_taken e (stmt.Expect line port value) a kept is = expect_taken e line (port_named port (ports_of e)) (plain value) a (λ p. found port
-    0 e.signals p) is
-act_taken e (stmt.Step line count) a kept is = let same : Arrive line count ≡ a = cc in subst (λ (b : Act). Takes e b) same tt
-act_taken e (stmt.Let line name value) a kept is = absurd cc
-act_taken e (stmt.Set line name value) a kept is = absurd cc
-act_taken e (stmt.If line cond taken other) a kept is = absurd cc
-act_taken e (stmt.While line cond body) a kept is = absurd cc
-act_taken e (stmt.Repeat line count body) a kept is = absurd cc
-act_taken e (stmt.Fork line region handle body) a kept is = absurd cc
-act_taken e (stmt.Join line handle) a kept is = absurd cc
-act_taken e (stmt.JoinStep line handle) a kept is = absurd cc
-act_taken e (stmt.Driver line kind port values) a kept is = absurd cc
-act_taken e (stmt.ResetFor line count) a kept is = absurd cc
+  outcome_at : (judged (limits_told b.limits) (taken b.course work)).outcome ≡ option_map (λ (r : Result). r.outcome) (run_of (setting_in b) behind)
+  outcome_at =
+      subst (λ (e : Elab). (judged (limits_told b.limits) (taken b.course work)).outcome ≡ option_map (λ (r : Result). r.outcome) (run_of (setting_of e b.code.test (limits_told b.limits)) behind)) kept.elab
+      told.outcome
 
--- the acts of a test
+  has_run : HasRun b.course.elab b.limits b.code n.course (b.order ++ work.from.path ∷ []) n.outcome
+  has_run = record {
+    permitted = allowed;
+    stands =
+        subst (λ (r : RunOf (setting_in b)). RunStands b.code n.course r) (sym replayed)
+        (roomed unseen b.code (judged (limits_told b.limits) (taken b.course work)).course n.course behind acted.course told.stands);
+    ends =
+        acted.outcome ∙ outcome_at
+        ∙ ap (λ (r : RunOf (setting_in b)). option_map (λ (x : Result). x.outcome) (run_of (setting_in b) r)) (sym replayed);
+  }
 
-both_taken : (e : Elab) (o : Option Act) (more : Option (List Act)) (acts : List Act)
-    → ((a : Act) → o ≡ Some a → Takes e a) → ((others : List Act) → more ≡ Some others → All (Takes e) others)
-    → option_and_then (λ (act : Act). option_map (λ (rest : List Act). act ∷ rest) more) o ≡ Some acts → All (Takes e) acts
-both_taken e None more acts one rest is = absurd cc
-both_taken e (Some a) None acts one rest is = absurd cc
-both_taken e (Some a) (Some others) acts one rest is =
-    let same : a ∷ others ≡ acts = cc in subst (λ (l : List Act). All (Takes e) l) same (All-cons (Takes e) a others (one a refl) (rest
-    others refl))
+  pub still_bench : IsBench n
+  still_bench =
+      bench_again b n is acted.limits acted.code elab_kept net_kept
+      (subst (λ (order : List Path). HasRun b.course.elab b.limits b.code n.course order n.outcome) (sym acted.order) has_run)
 
-abbrev AllKept : List (List ℕ × PortInfo) → List TestStmt → Type 0
-AllKept ports body = All (λ s. IsKept ports (out-TestStmt s)) body
+  pub has_taken : MayGoOn (limits_told b.limits) b.course work → HasTaken b work n
+  has_taken may = record {
+    order = acted.order;
+    marks = λ p.
+        ap (λ (v : CourseValue). mark_at v.threads p) acted.course ∙ kept.marks p ∙ taken_mark b.course work prepared.next.path may.absent p;
+    code = acted.code;
+    limits = acted.limits;
+    elab = elab_kept;
+    net = net_kept;
+  }
 
-pub all_taken : (e : Elab) (body : List TestStmt) (acts : List Act) → AllKept (ports_of e) body → acts_of (ports_of e) body ≡ Some acts
-    → All (Takes e) acts
-all_taken e [] acts kept is = let same : [] ≡ acts = cc in subst (λ (l : List Act). All (Takes e) l) same (All-nil (Takes e))
-all_taken e (s ∷ rest) acts kept is =
-    both_taken e (act_of (ports_of e) s) (acts_of (ports_of e) rest) acts (λ a. act_taken e (out-TestStmt s) a (All-head (λ s. IsKept
-    (ports_of e) (out-TestStmt s)) s rest kept))
-    (λ others. all_taken e rest others (All-tail (λ s. IsKept (ports_of e) (out-TestStmt s)) s rest kept)) is
+pub commits_leave_benches : AtEachTest RealConflicts → JudgingIsTold → MarksAndRoomUnseen → EnabledIsTold → FreshMayGoOn → CommitsLeaveBenches
+commits_leave_benches real judging unseen enabled going_on b work n is prepared fresh acted =
+    let g = goes_on real b is fresh.goes_on in
+    let may = may_act b is g work prepared fresh enabled in
+    (still_bench judging unseen b work n is g prepared fresh acted may, has_taken judging unseen b work n is g prepared fresh acted may (going_on b work is prepared fresh))
 
--- a checked test has acts exactly where it is in the first form
+-- ---- marks and room
 
-poke_there : (line : ℕ) (o : Option PortInfo) (n : Option ℕ) → goes true o ≡ true → is_some (poke_of line o n) ≡ is_some n
-poke_there line None n kept = absurd cc
-poke_there line (Some p) None kept = refl
-poke_there line (Some p) (Some n) kept = refl
+module _ (unseen : MarksAndRoomUnseen) (b : BenchValue) (is : IsBench b) where
+  with_threads : (ts : Threads) → ((w : World Inner) → CourseStands b.code b.course w → CourseStands b.code (record b.course { threads = ts }) w)
+      → IsBench (record b { course = record b.course { threads = ts } })
+  with_threads ts f =
+      bench_again b (record b { course = record b.course { threads = ts } }) is refl refl refl refl
+      (record { permitted = is.permitted; stands = run_stands b.code b.course (record b.course { threads = ts }) (run_in b) f refl refl refl refl is.stands; ends = is.ends })
 
-peek_there : (line : ℕ) (o : Option PortInfo) (into : Option (List ℕ)) → is_missing o ≡ false
-    → is_some (peek_of line o into) ≡ is_none into
-peek_there line None into kept = absurd cc
-peek_there line (Some p) None kept = refl
-peek_there line (Some p) (Some v) kept = refl
+  with_room : (n : BenchValue) → EqualButRoom b n → IsBench n
+  with_room n same =
+      subst (λ (x : BenchValue). IsBench x) (sym same)
+      (bench_again b (record b { course = record b.course { room = n.course.room } }) is refl refl refl refl
+      (record { permitted = is.permitted; stands = roomed unseen b.code b.course (record b.course { room = n.course.room }) (run_in b) refl is.stands; ends = is.ends }))
 
-expect_there : (line : ℕ) (o : Option PortInfo) (n : Option ℕ) → is_missing o ≡ false → is_some (expect_of line o n) ≡ is_some n
-expect_there line None n kept = absurd cc
-expect_there line (Some p) None kept = refl
-expect_there line (Some p) (Some n) kept = refl
+  pub stays_bench : StaysBench b
+  stays_bench = record {
+    mark = λ p. with_threads (change (with_mark true) b.course.threads p) (λ w s. (unseen b.code b.course w s).mark true p);
+    marks = with_threads (unmarked b.course.threads) (λ w s. (unseen b.code b.course w s).marks);
+    room = with_room;
+  }
 
-act_there : (ports : List (List ℕ × PortInfo)) (x : TestStmt-F TestStmt) → IsKept ports x → is_some (act_at ports x) ≡ is_first_form x
-act_there ports (stmt.Poke line port value) kept = poke_there line (port_named port ports) (plain value) kept
-act_there ports (stmt.Peek line port into) kept = peek_there line (port_named port ports) into kept
-act_there ports (stmt.Expect line port value) kept = expect_there line (port_named port ports) (plain value) kept
-act_there ports (stmt.Step line count) kept = refl
-act_there ports (stmt.Let line name value) kept = refl
-act_there ports (stmt.Set line name value) kept = refl
-act_there ports (stmt.If line cond taken other) kept = refl
-act_there ports (stmt.While line cond body) kept = refl
-act_there ports (stmt.Repeat line count body) kept = refl
-act_there ports (stmt.Fork line region handle body) kept = refl
-act_there ports (stmt.Join line handle) kept = refl
-act_there ports (stmt.JoinStep line handle) kept = refl
-act_there ports (stmt.Driver line kind port values) kept = refl
-act_there ports (stmt.ResetFor line count) kept = refl
-
-both_there : (o : Option Act) (more : Option (List Act)) (one all : Bool) → is_some o ≡ one → is_some more ≡ all
-    → is_some (option_and_then (λ (act : Act). option_map (λ (rest : List Act). act ∷ rest) more) o) ≡ (one && all)
-both_there None more one all h k = cc
-both_there (Some a) None one all h k = cc
-both_there (Some a) (Some others) one all h k = cc
-
-pub all_there : (ports : List (List ℕ × PortInfo)) (body : List TestStmt) → AllKept ports body
-    → is_some (acts_of ports body) ≡ in_first_form body
-all_there ports [] kept = refl
-all_there ports (s ∷ rest) kept =
-    both_there (act_of ports s) (acts_of ports rest) (is_first_form (out-TestStmt s)) (in_first_form rest)
-    (act_there ports (out-TestStmt s) (All-head (λ s. IsKept ports (out-TestStmt s)) s rest kept))
-    (all_there ports rest (All-tail (λ s. IsKept ports (out-TestStmt s)) s rest kept))
-
--- what a checked test's acts tell of it
-
-form_by : (test : TestText) (ports ports' : List (List ℕ × PortInfo)) (b : Bool) → test_rule test ports ≡ None → ports' ≡ ports
-    → is_some (acts_of ports' test.body) ≡ b → in_first_form test.body ≡ b
-form_by test ports ports' b rule p is =
-    let there : is_some (acts_of ports test.body) ≡ in_first_form test.body = all_there ports test.body (all_kept test ports rule) in
-    sym there ∙ (ap (λ (ps : List (List ℕ × PortInfo)). is_some (acts_of ps test.body)) (sym p) ∙ is)
-
-pub has_form : (test : TestText) (ports ports' : List (List ℕ × PortInfo)) (acts : List Act) → test_rule test ports ≡ None
-    → ports' ≡ ports
-    → acts_of ports' test.body ≡ Some acts → in_first_form test.body ≡ true
-has_form test ports ports' acts rule p is = form_by test ports ports' true rule p (ap is_some is)
-
-pub has_no_form : (test : TestText) (ports ports' : List (List ℕ × PortInfo)) → test_rule test ports ≡ None → ports' ≡ ports
-    → acts_of ports' test.body ≡ None → in_first_form test.body ≡ false
-has_no_form test ports ports' rule p is = form_by test ports ports' false rule p (ap is_some is)
-
-pub has_taken : (e : Elab) (test : TestText) (ports ports' : List (List ℕ × PortInfo)) (acts : List Act) → test_rule test ports ≡ None
-    → ports' ≡ ports
-    → ports ≡ ports_of e → acts_of ports' test.body ≡ Some acts → All (Takes e) acts
-has_taken e test ports ports' acts rule p q is =
-    let kept : AllKept (ports_of e) test.body = subst (λ (ps : List (List ℕ × PortInfo)). AllKept ps test.body) q (all_kept test ports
-    rule) in
-    all_taken e test.body acts kept (ap (λ (ps : List (List ℕ × PortInfo)). acts_of ps test.body) (sym (p ∙ q)) ∙ is)
+pub marks_leave_benches : MarksAndRoomUnseen → MarksLeaveBenches
+marks_leave_benches unseen b is = stays_bench unseen b is

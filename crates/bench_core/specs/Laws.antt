@@ -1,47 +1,80 @@
--- What holds of each run, whatever the circuit and the test.
-use Rattle.std.specs.Prelude.{◌≡◌, ℕ, ◌+◌, Bool, true, false, nat_lt, if◌then◌else◌, List, [], ◌∷◌, length, is_some}
-use Rattle.std.specs.List.{list_any}
-use Rattle.net_core.specs.declared.tree.Elab.{Elab}
-use Rattle.bench_core.specs.declared.act.Act.{Act}
-use Rattle.bench_core.specs.declared.act.Act.TheVariants.{Arrive}
-use Rattle.bench_core.specs.declared.run.Observation.{Observation}
-use Rattle.bench_core.specs.declared.run.Outcome.{Outcome}
-use Rattle.bench_core.specs.declared.run.Outcome.TheVariants.{Failed, Finished, TimeLimit}
-use Rattle.bench_core.specs.World.{last_time, run_of}
+-- What is proved of benches.
+use Rattle.std.specs.Prelude.{◌≡◌, ◌^◌, ◌<◌, ◌||◌, true, map, option_map}
+use Rattle.net_design.specs.Designs.{DesignValue, Runs, ports_of}
+use Rattle.tl_code.specs.Compiled.{Compiled}
+use Rattle.tl_code.specs.Codes.{IsCode}
+use Rattle.tl_prepare.specs.Work.{Work}
+use Rattle.tl_prepare.specs.Given.{IsPrepared}
+use Rattle.bench_model.specs.Paths.{Path}
+use Rattle.bench_model.specs.Orders.{Result, least_of_run, run_of}
+use Rattle.bench_model.specs.Sorting.{record_le, sorted}
+use Rattle.bench_setting.specs.declared.limits.Limits.{Limits}
+use Rattle.bench_setting.specs.Limited.{limits_told}
+use Rattle.bench_run.specs.declared.outcome.Outcome.{Outcome}
+use Rattle.bench_run.specs.Told.{record_told, outcome_told}
+use Rattle.bench_threads.specs.Threads.{change, with_mark, unmarked}
+use Rattle.bench_core.specs.Bench.{BenchValue, IsBench, EqualButRoom, NothingMarked, marked_at, setting_in, run_in, first_bench}
+use Rattle.bench_core.specs.Picking.{PickSays, picked, marked_for, path_in, names}
+use Rattle.bench_core.specs.Committing.{Fresh, HasTaken, MayGoOn, Acted}
 
--- whether a run ended by a failure
-abbrev pub is_failed : Outcome → Bool
-is_failed (Failed time) = true
-is_failed (Finished time) = false
-is_failed (TimeLimit time) = false
+-- ---- the first bench
 
--- whether it came to the end of its test, without a failure
-abbrev pub is_finished : Outcome → Bool
-is_finished (Failed time) = false
-is_finished (Finished time) = true
-is_finished (TimeLimit time) = false
+-- for code of a test for the circuit's ports, and limits whose acts can be counted
+pub record MayBegin (d : DesignValue) (c : Compiled) (l : Limits) : Type 0 where
+  pub runs : Runs d.elab d.net
+  pub code : IsCode c
+  pub ports : c.test.ports ≡ ports_of d.elab
+  pub step_actions : l.step_actions < 2 ^ 31
+  pub run_actions : l.run_actions < 2 ^ 31
 
--- whether one of the records is a failure
-abbrev pub has_failure : List Observation → Bool
-has_failure records = list_any (λ (o : Observation). is_some o.wanted) records
+-- THE FIRST BENCH IS ONE, and nothing is marked there
+abbrev pub FirstIsBench : Type 0
+FirstIsBench = (d : DesignValue) (c : Compiled) (l : Limits) (n : BenchValue) → MayBegin d c l → EqualButRoom (first_bench d c l) n → IsBench n × NothingMarked n
 
--- how many edges an act waits for
-abbrev pub edges_of : Act → ℕ
-edges_of (Arrive line count) = count
-edges_of _ = 0
+-- ---- a pick
 
--- how many edges acts wait for together
-abbrev pub all_edges : List Act → ℕ
-all_edges [] = 0
-all_edges (act ∷ acts) = edges_of act + all_edges acts
+-- A PICK IS RIGHT; where nothing is marked it is that of the one-thread order, and it marks what it hands out
+pub record PickedRightly (b : BenchValue) : Type 0 where
+  pub says : PickSays b (picked b)
+  pub first : NothingMarked b → least_of_run (run_in b) ≡ path_in (picked b)
+  pub marks : (p : Path) → marked_at (marked_for (picked b) b) p ≡ (marked_at b p || names (picked b) p)
 
-pub record RunLaws : Type 0 where
-  -- a run has failed exactly where one of its records is a failure
-  pub failures : (e : Elab) (acts : List Act) → is_failed (run_of e acts).outcome ≡ has_failure (run_of e acts).observations
-  -- a run that hasn't failed is at its limit of time steps exactly where its acts wait for more edges than the last time step's
-  -- number, and else it finished in the time step whose number they make
-  pub limits :
-      (e : Elab) (acts : List Act) → is_failed (run_of e acts).outcome ≡ false
-      → (run_of e acts).outcome ≡ (if nat_lt last_time (all_edges acts) then TimeLimit last_time else Finished (all_edges acts))
-  -- a run that finished took every act, and the end
-  pub every_act : (e : Elab) (acts : List Act) → is_finished (run_of e acts).outcome ≡ true → (run_of e acts).actions ≡ length acts + 1
+abbrev pub PicksAreRight : Type 0
+PicksAreRight = (b : BenchValue) → IsBench b → PickedRightly b
+
+-- ---- marks and room
+
+-- the bench with one more thread marked, with none, and with another room
+pub record StaysBench (b : BenchValue) : Type 0 where
+  pub mark : (p : Path) → IsBench (record b { course = record b.course { threads = change (with_mark true) b.course.threads p } })
+  pub marks : IsBench (record b { course = record b.course { threads = unmarked b.course.threads } })
+  pub room : (n : BenchValue) → EqualButRoom b n → IsBench n
+
+-- MARKS AND ROOM LEAVE A BENCH ONE
+abbrev pub MarksLeaveBenches : Type 0
+MarksLeaveBenches = (b : BenchValue) → IsBench b → StaysBench b
+
+-- ---- a commit
+
+-- WHAT IS FRESH MAY BE TAKEN AND JUDGED
+abbrev pub FreshMayGoOn : Type 0
+FreshMayGoOn = (b : BenchValue) (work : Work) → IsBench b → IsPrepared work → Fresh b work → MayGoOn (limits_told b.limits) b.course work
+
+-- A COMMIT LEAVES A BENCH, which has taken the act
+abbrev pub CommitsLeaveBenches : Type 0
+CommitsLeaveBenches = (b : BenchValue) (work : Work) (n : BenchValue) → IsBench b → IsPrepared work → Fresh b work → Acted b work n → IsBench n × HasTaken b work n
+
+-- ---- the result
+
+-- what a bench gives that has this outcome
+abbrev pub given_at : BenchValue → Outcome → Result
+given_at b o = record {
+  records = sorted record_le (map record_told b.course.observations);
+  samples = b.course.samples;
+  actions = b.course.actions;
+  outcome = outcome_told o;
+}
+
+-- A BENCH TELLS THE RESULT OF ITS RUN
+abbrev pub ResultsAreTold : Type 0
+ResultsAreTold = (b : BenchValue) → IsBench b → option_map (given_at b) b.outcome ≡ run_of (setting_in b) (run_in b)

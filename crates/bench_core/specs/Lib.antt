@@ -1,6 +1,4 @@
-pub mod Acts
 pub mod Bench
-pub mod Device
-pub mod Examples
+pub mod Picking
+pub mod Committing
 pub mod Laws
-pub mod World

@@ -1,22 +1,16 @@
-//! The bench: a test that was checked against a circuit's ports, and its run.
+//! The bench of a run: it hands out threads, takes the acts that were prepared for them, and keeps the order in which it took them.
 //!
-//! [`first_acts`] turns the statements of a test in the first form into acts, which name ports by their numbers.
-//! [`run_first`] takes the acts one after another on a plain engine and gives the run: what was
-//! observed, how many actions there were, and how it ended. What a run is, is said without an
-//! engine, as a world that goes through the acts (`specs/World.antt`): its values are the settled
-//! ones of the circuit under its inputs and registers.
+//! The world of a [`Bench`] is the replay of its order: whoever prepares the acts, and in whatever order they come, the order is permitted, and
+//! the bench has what the run has after it. `specs/Bench` says so, in `IsBench`. [`Bench::pick`] and [`Bench::commit`] are all that workers
+//! need. A prepared act is taken only where it is fresh: where it was prepared from the state in which its thread still stands.
 #![tactic(auto)]
 
-mod act;
-mod device;
-mod examples;
-mod laws;
+mod bench;
+mod commit;
+pub mod laws;
+mod pick;
 mod run;
 
-pub use act::{Act, FormFault, first_acts};
-pub use examples::{the_acts_work_out, the_runs_work_out};
-pub use laws::runs_tell_failures;
-pub use run::{Observation, Outcome, Run, run_first};
-
-#[cfg(test)]
-mod tests;
+pub use bench::Bench;
+pub use commit::Commit;
+pub use pick::Pick;

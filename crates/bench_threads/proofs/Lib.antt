@@ -6,3 +6,6 @@ pub mod Acting
 pub mod Spending
 pub mod Ticking
 pub mod Lengths
+pub mod Ahead
+pub mod Soonest
+pub mod Running

@@ -33,11 +33,11 @@ sorted_passed f (e ∷ es) h =
     let rest = sorted_passed f es (T_right _ _ h) in
     elim (f e.1) as (λ b. T (is_sorted path_cmp (cond b (e ∷ passed f es) (passed f es)))) [ true ↦ T_both _ _ (below_passed f e.0 es (T_left _ _ h)) rest | false ↦ rest ]
 
-find_below : (q : Path) (es : List (Path × Entry)) → T (below_all path_cmp q es) → find path_cmp q es ≡ None
+pub find_below : (q : Path) (es : List (Path × Entry)) → T (below_all path_cmp q es) → find path_cmp q es ≡ None
 find_below q [] h = refl
 find_below q (e ∷ es) h = ap (λ r. cond (is_eq r) (Some e.1) (find path_cmp q es)) (is_less (path_cmp q e.0) (T_left _ _ h)) ∙ find_below q es (T_right _ _ h)
 
-equal : (r : Ordering) → is_eq r ≡ true → r ≡ Equal
+pub equal : (r : Ordering) → is_eq r ≡ true → r ≡ Equal
 equal Less h = absurd (subst T (sym h) tt)
 equal Equal h = refl
 equal Greater h = absurd (subst T (sym h) tt)

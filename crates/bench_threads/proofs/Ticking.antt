@@ -190,7 +190,7 @@ get_taken [] (suc i) d = refl
 get_taken (x ∷ l) zero d = refl
 get_taken (x ∷ l) (suc i) d = get_taken l i d
 
-some_mapped : (f : Entry → Entry) (o : Option Entry) → is_some (option_map f o) ≡ is_some o
+pub some_mapped : (f : Entry → Entry) (o : Option Entry) → is_some (option_map f o) ≡ is_some o
 some_mapped f None = refl
 some_mapped f (Some e) = refl
 

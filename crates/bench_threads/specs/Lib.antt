@@ -5,3 +5,4 @@ pub mod Queues
 pub mod Houses
 pub mod Tables
 pub mod Examples
+pub mod Laws

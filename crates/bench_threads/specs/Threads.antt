@@ -1,5 +1,5 @@
 -- The threads of a bench: who may act, who is spent, and what an edge does.
-use Rattle.std.specs.Prelude.{ℕ, ◌-◌, List, [], ◌∷◌, Bool, true, false, cond, not, ◌&&◌, nat_lt, nat_le, Option, Some, None, is_some, option_map}
+use Rattle.std.specs.Prelude.{ℕ, ◌-◌, min, max, List, [], ◌∷◌, Bool, true, false, cond, not, ◌&&◌, nat_lt, nat_le, Option, Some, None, is_some, option_map}
 use Rattle.std.specs.List.{list_any}
 use Rattle.std.specs.FinMap as map
 use Rattle.std.specs.Borrow.{Bor}
@@ -13,7 +13,7 @@ use Rattle.bench_threads.specs.declared.entry.Edge.{Edge}
 use Rattle.bench_threads.specs.declared.entry.Edge.TheVariants.{Stays, Counts, LetGo}
 use Rattle.bench_threads.specs.declared.entry.Mode.{Mode}
 use Rattle.bench_threads.specs.declared.entry.Mode.TheVariants.{Running, AtEdges, AtJoinStep, Spent}
-use Rattle.bench_threads.specs.Modes.{is_running, waits_for}
+use Rattle.bench_threads.specs.Modes.{is_running, waits_for, waits_step}
 use Rattle.bench_threads.specs.Shelves.{Threads}
 
 -- ---- who may act
@@ -154,3 +154,30 @@ tick_mode ts e _ = e
 -- all threads after the edge
 abbrev pub tick : Threads → Threads
 tick ts = map_values path_cmp (λ p e. tick_mode ts e e.mode) ts
+
+-- ---- edges ahead
+
+-- the lesser of two numbers of edges, where None is more than each number
+abbrev pub sooner : Option ℕ → Option ℕ → Option ℕ
+sooner None b = b
+sooner (Some n) None = Some n
+sooner (Some n) (Some m) = Some (min n m)
+
+-- after how many edges a thread that waits so runs, if nobody acts before
+abbrev pub edges_of : Threads → Mode → Option ℕ
+edges_of ts (AtEdges n) = Some (max n 1)
+edges_of ts (AtJoinStep c) = cond (is_some (map.get ts c)) None (Some 1)
+edges_of ts _ = None
+
+-- after how many edges the first of these threads runs
+abbrev pub soonest : Threads → List (Path × Entry) → Option ℕ
+soonest ts [] = None
+soonest ts (e ∷ es) = sooner (edges_of ts e.1.mode) (soonest ts es)
+
+-- after how many edges the first waiting thread runs, if nobody acts before
+abbrev pub edges_ahead : Threads → Option ℕ
+edges_ahead ts = soonest ts (map.entries ts)
+
+-- some thread waits at a joinstep for this child
+abbrev pub is_awaited : Threads → Path → Bool
+is_awaited ts c = list_any (λ e. waits_step c e.1.mode) (map.entries ts)

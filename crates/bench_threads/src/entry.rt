@@ -1,6 +1,6 @@
 //! A thread of a bench, with what it waits for.
 ghost use Rattle.std.specs.Prelude.{◌≡◌};
-ghost use Rattle.bench_threads.specs.Modes.{is_running, waits_for};
+ghost use Rattle.bench_threads.specs.Modes.{is_running, waits_for, waits_step};
 ghost use Rattle.bench_threads.specs.Queues.{queue_for, queue_of};
 ghost use Rattle.bench_threads.specs.Threads.{same_region, line_in};
 
@@ -104,6 +104,16 @@ impl Mode {
     {
         match self {
             Mode::AtJoin(other) => matches!(child.compare(other), Ordering::Equal),
+            _ => false,
+        }
+    }
+
+    /// Whether the thread waits at a joinstep for the end of this child.
+    pub fn awaits(&self, child: &Path) -> bool
+        ensures { result ≡ waits_step child.now self.now }
+    {
+        match self {
+            Mode::AtJoinStep(other) => matches!(child.compare(other), Ordering::Equal),
             _ => false,
         }
     }

@@ -5,12 +5,11 @@ mod entry;
 pub mod examples;
 pub mod laws;
 mod queues;
+mod same;
 mod seat;
 mod shelf;
 mod table;
 
 pub use entry::{Entry, Mode};
+pub use same::same_state;
 pub use table::ThreadTable;
-
-#[cfg(test)]
-mod tests;

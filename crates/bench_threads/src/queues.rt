@@ -5,7 +5,7 @@
 ghost use Rattle.std.specs.Prelude.{◌≡◌, ◌<◌, ◌≤◌, None, OnOk, IfSome, is_some, ◌^◌, true, option_map, length, take, slice_index_or};
 ghost use Rattle.std.specs.Option.{option_copied, IfNone};
 ghost use Rattle.std.specs.FinMap as map;
-ghost use Rattle.bench_threads.specs.Threads.{change, with_mark, running, woken, waits_at, unmarked, quiet, may_act, is_enabled, least_unmarked, spent_seen, spent_named, first_spent, edge_of, tick_mode, tick};
+ghost use Rattle.bench_threads.specs.Threads.{change, with_mark, running, woken, waits_at, unmarked, quiet, may_act, is_enabled, least_unmarked, spent_seen, spent_named, first_spent, edge_of, tick_mode, tick, sooner, edges_of, edges_ahead, is_awaited};
 ghost use Rattle.bench_threads.specs.Queues.{waiting_of};
 ghost use Rattle.bench_threads.specs.declared.entry.Entry.{Entry};
 
@@ -36,6 +36,19 @@ impl Model for Queues {
     ghost view = { λ q. record { threads = all q.drivers.threads q.monitors.threads q.waiting.threads; room = room_in q.drivers q.monitors q.waiting } };
 
     ghost invariant = { λ q. Shared q.drivers q.monitors q.waiting };
+}
+
+/// The lesser of two numbers of edges, where `None` is more than each number.
+fn sooner(this: Option<u128>, that: Option<u128>) -> Option<u128>
+    ensures { result ≡ sooner this that }
+{
+    match this {
+        None => that,
+        Some(first) => match that {
+            None => Some(first),
+            Some(second) => Some(first.min(second)),
+        },
+    }
 }
 
 impl Queues {
@@ -174,6 +187,13 @@ impl Queues {
         self.drivers.is_empty() && self.monitors.is_empty()
     }
 
+    /// Whether no thread but that of a path is running. Takes two look-ups at most.
+    pub fn runs_alone(&self, path: &Path) -> bool
+        ensures { result ≡ quiet (map.remove self.now.threads path.now) }
+    {
+        self.drivers.has_no_other(path) && self.monitors.has_no_other(path)
+    }
+
     /// Whether a thread may act.
     fn may_act(&self, entry: &Entry) -> bool
         ensures { result ≡ may_act self.now.threads entry.now }
@@ -304,5 +324,39 @@ impl Queues {
             left -= 1;
             self.tick_at(left);
         }
+    }
+
+    /// After how many edges a thread that waits so runs, if nobody acts before.
+    fn edges_of(&self, mode: &Mode) -> Option<u128>
+        ensures { result ≡ edges_of self.now.threads mode.now }
+    {
+        match mode {
+            Mode::AtEdges(left) => Some((*left).max(1)),
+            Mode::AtJoinStep(child) => match self.find(child) {
+                None => Some(1),
+                Some(_) => None,
+            },
+            _ => None,
+        }
+    }
+
+    /// After how many edges the first thread that waits runs, if nobody acts before. Goes over those that wait, and takes no memory.
+    pub fn edges_ahead(&self) -> Option<u128>
+        ensures { result ≡ edges_ahead self.now.threads }
+    {
+        let mut first = None;
+        let mut index = self.waiting.len();
+        while index > 0 {
+            index -= 1;
+            first = sooner(self.edges_of(&self.waiting.at(index).mode), first);
+        }
+        first
+    }
+
+    /// Whether some thread waits at a joinstep for the end of this child. Goes over those that wait.
+    pub fn is_awaited(&self, child: &Path) -> bool
+        ensures { result ≡ is_awaited self.now.threads child.now }
+    {
+        self.waiting.awaits(child)
     }
 }

@@ -3,11 +3,12 @@
 //! A thread is found by a binary search. To put one in or to take one out moves the pointers behind it. Only `reserve_one` takes memory.
 ghost use Rattle.std.specs.Prelude.{◌≡◌, ◌<◌, ◌≤◌, T, Some, None, IfOk, IfErr, OnOk, IfSome, cond, is_some, ◌^◌, length, option_map, false, slice_index_or, slice_set};
 ghost use Rattle.std.specs.Prelude as list;
-ghost use Rattle.std.specs.List.{remove};
+ghost use Rattle.std.specs.List.{remove, list_any};
 ghost use Rattle.std.specs.Option.{option_copied};
 ghost use Rattle.std.specs.FinMap as map;
 ghost use Rattle.std.specs.FinMap.{is_sorted};
 ghost use Rattle.bench_model.specs.Paths.{path_cmp};
+ghost use Rattle.bench_threads.specs.Modes.{waits_step};
 ghost use Rattle.bench_threads.specs.Shelves.{keyed, IsAt, IsGap, Listed, is_nil, first_unmarked};
 ghost use Rattle.bench_threads.specs.declared.entry.Entry.{Entry};
 ghost use Rattle.bench_threads.specs.Threads.{change, with_mark, unmarked, spent_seen, spent_in};
@@ -50,6 +51,13 @@ fn place(seats: &[Seat], path: &Path) -> Result<usize, usize>
     seats.binary_search_by(|seat| seat.compare(path))
 }
 
+/// Whether one of these threads waits at a joinstep for the end of this child.
+fn some_awaits(seats: &[Seat], child: &Path) -> bool
+    ensures { result ≡ list_any (λ e. waits_step child.now e.mode) seats.now }
+{
+    seats.iter().any(|seat| seat.entry().mode.awaits(child))
+}
+
 /// Takes the marks of these threads away.
 fn unmark(seats: &mut [Seat])
     ensures { seats.new ≡ list.map (with_mark false) seats.old }
@@ -85,6 +93,17 @@ impl Shelf {
         ensures { result ≡ is_nil (map.entries self.now.threads) }
     {
         self.seats.is_empty()
+    }
+
+    /// Whether no thread but that of this path is there. Takes a look-up where one thread is there.
+    pub fn has_no_other(&self, path: &Path) -> bool
+        ensures { result ≡ is_nil (map.entries (map.remove self.now.threads path.now)) }
+    {
+        match self.len() {
+            0 => true,
+            1 => self.find(path).is_some(),
+            _ => false,
+        }
     }
 
     /// The thread of a path. Takes a binary search.
@@ -200,6 +219,13 @@ impl Shelf {
             }
         }
         None
+    }
+
+    /// Whether some thread waits at a joinstep for the end of this child. Goes over the threads.
+    pub fn awaits(&self, child: &Path) -> bool
+        ensures { result ≡ list_any (λ e. waits_step child.now e.mode) (map.values self.now.threads) }
+    {
+        some_awaits(self.seats.as_slice(), child)
     }
 
     /// The thread at an index.

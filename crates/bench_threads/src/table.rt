@@ -3,7 +3,7 @@ ghost use Rattle.std.specs.Prelude.{◌≡◌, None, Some, true, false, IfOk, On
 ghost use Rattle.std.specs.Option.{option_copied};
 ghost use Rattle.std.specs.FinMap as map;
 ghost use Rattle.bench_threads.specs.Tables.{started, standing};
-ghost use Rattle.bench_threads.specs.Threads.{change, with_mark, woken, unmarked, quiet, is_enabled, least_unmarked, spent_seen, spent_named, first_spent, tick};
+ghost use Rattle.bench_threads.specs.Threads.{change, with_mark, woken, unmarked, quiet, is_enabled, least_unmarked, spent_seen, spent_named, first_spent, tick, edges_ahead, is_awaited};
 
 use crate::entry::{Entry, Mode};
 use crate::queues::Queues;
@@ -119,6 +119,13 @@ impl ThreadTable {
         self.queues.is_quiet()
     }
 
+    /// Whether nobody but the thread of this path runs; whether that one runs, or is there, makes no difference.
+    pub fn runs_alone(&self, path: &Path) -> bool
+        ensures { result ≡ quiet (map.remove self.now.threads path.now) }
+    {
+        self.queues.runs_alone(path)
+    }
+
     /// The thread of least path that may act and isn't marked. Goes past the marked ones before it.
     pub fn least_unmarked(&self) -> Option<&Entry>
         ensures { option_copied result ≡ least_unmarked self.now.threads }
@@ -217,5 +224,21 @@ impl ThreadTable {
         ensures ready { self.new.ready ≡ self.old.ready }
     {
         self.queues.tick();
+    }
+
+    /// After how many edges the first waiting thread runs, if nobody acts before: one that waits for edges, after so many of them and at
+    /// least one; one that waits at a joinstep for a child that isn't there, after one. `None` where no thread waits so. Goes over the
+    /// threads that wait, with a look-up for each that waits at a joinstep, and takes no memory.
+    pub fn edges_ahead(&self) -> Option<u128>
+        ensures { result ≡ edges_ahead self.now.threads }
+    {
+        self.queues.edges_ahead()
+    }
+
+    /// Whether some thread waits at a joinstep for the end of this child. Goes over the threads that wait, and takes no memory.
+    pub fn is_awaited(&self, child: &Path) -> bool
+        ensures { result ≡ is_awaited self.now.threads child.now }
+    {
+        self.queues.is_awaited(child)
     }
 }

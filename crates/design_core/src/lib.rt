@@ -4,5 +4,7 @@
 #![tactic(auto)]
 
 mod stages;
+#[cfg(test)]
+mod tests;
 
 pub use stages::{BuildFault, build};

@@ -87,7 +87,7 @@ fn read_fault(fault: ReadFault) -> BuildFault
 
 /// The circuit that a text spells.
 #[tactic(auto, using(crate::proofs::Told::found_spelled))]
-fn spell(alloc: Global, text: &[u8]) -> Result<Circuit, BuildFault>
+pub(crate) fn spell(alloc: Global, text: &[u8]) -> Result<Circuit, BuildFault>
     requires { length text.now < 2 ^ 32 - 1 }
     ensures found { IfOk result (λ c. spelled text.now ≡ Ok c) }
     ensures written { IfOk result (λ c. IsWritten c) }
@@ -116,7 +116,7 @@ fn check_fault(fault: CheckFault) -> BuildFault
 }
 
 /// The circuit, if it breaks no rule.
-fn judge(alloc: Global, circuit: Circuit) -> Result<Checked, BuildFault>
+pub(crate) fn judge(alloc: Global, circuit: Circuit) -> Result<Checked, BuildFault>
     ensures kept { IfOk result (λ c. c ≡ circuit) }
     ensures rule { IfOk result (λ c. circuit_rule circuit ≡ None) }
     ensures fault { IfErr result (λ f. Tells (ruled circuit) f) }
@@ -140,7 +140,7 @@ fn flat_fault(fault: FlatFault) -> BuildFault
 }
 
 /// The elaboration of a circuit that breaks no rule.
-fn lay_out(alloc: Global, checked: &Checked) -> Result<Elab, BuildFault>
+pub(crate) fn lay_out(alloc: Global, checked: &Checked) -> Result<Elab, BuildFault>
     requires written { IsWritten checked.now }
     ensures formed { IfOk result (λ e. Formed e) }
     ensures found { IfOk result (λ e. laid_out checked.now ≡ measured e) }

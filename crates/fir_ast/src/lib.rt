@@ -8,8 +8,6 @@
 mod copy;
 mod examples;
 mod printing;
-#[cfg(test)]
-mod tests;
 mod tree;
 
 pub use examples::the_printed_form_works_out;

@@ -28,8 +28,6 @@ mod shape_firsts;
 mod sinks;
 mod statements;
 mod surroundings;
-#[cfg(test)]
-mod tests;
 mod thing;
 mod type_table;
 mod types;

@@ -8,8 +8,6 @@ mod examples;
 mod exprs;
 mod judged;
 mod literals;
-#[cfg(test)]
-mod tests;
 mod types;
 
 pub use examples::{

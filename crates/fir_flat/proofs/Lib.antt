@@ -18,7 +18,10 @@ pub mod TreeCounts
 pub mod Ended
 pub mod Ranges
 pub mod PartFacts
+pub mod InnerParts
+pub mod MuxFacts
 pub mod ResolveFacts
+pub mod LookedUp
 pub mod StatementFacts
 pub mod PortFacts
 pub mod WritingFacts

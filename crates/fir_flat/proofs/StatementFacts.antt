@@ -1,5 +1,5 @@
 -- Statements written one ground part after another.
-use Rattle.std.proofs.Common.{ℕ, zero, suc, ◌≡◌, ◌+◌, ◌<◌, ◌≤◌, ◌∙◌, Bool, true, false, not, List, [], ◌∷◌, ◌++◌, map, length, get_or, drop, refl, sym, ap, ap₂, arith, append_assoc, slice_index, Some, None, add-one}
+use Rattle.std.proofs.Common.{ℕ, zero, suc, ◌≡◌, ◌+◌, ◌<◌, ◌≤◌, ◌∙◌, Bool, true, false, not, List, [], ◌∷◌, ◌++◌, map, length, get_or, drop, refl, sym, ap, ap₂, arith, append_assoc, slice_index, Some, None, add-one, if◌then◌else◌}
 use Rattle.std.proofs.lemmas.List.{drop_more, drop_all, append-nil, length-map}
 use Rattle.std.proofs.lemmas.List.FromFn.{map-range_with_len_more}
 use Rattle.net_core.specs.declared.tree.Ground.{Ground}
@@ -7,10 +7,11 @@ use Rattle.net_core.specs.declared.tree.Ground.TheVariants as out
 use Rattle.fir_check.specs.Types.{same}
 use Rattle.fir_flat.specs.declared.parts.Part.{Part}
 use Rattle.fir_flat.specs.Shapes.{Shape, Leaf, leaves, partners}
-use Rattle.fir_flat.specs.Values.{Value, signal}
+use Rattle.fir_flat.specs.Values.{Value, signal, turned, may_be_driven}
+use Rattle.fir_flat.specs.Resolving.{Undriven}
 use Rattle.fir_flat.specs.Parts.{turned_part, turned_parts}
 use Rattle.fir_flat.specs.Elaboration.{declare, declare_all, node_part, connect_part, connect_parts, invalid_parts}
-use Rattle.fir_flat.specs.Statements.{node_grounds, invalid_part}
+use Rattle.fir_flat.specs.Statements.{node_grounds, connect_grounds, invalid_part, invalid_grounds}
 use Rattle.fir_flat.proofs.LeafCounts.{leaves_counted, partners_counted}
 use Rattle.fir_flat.proofs.Ranges.{joined_more}
 use Rattle.fir_flat.proofs.PartFacts.{written_more}
@@ -99,3 +100,31 @@ pub invalid_end : (line k : ℕ) (sink : Value) (parts : List Part) (old whole :
 invalid_end line k sink parts old whole ep h inv =
     let long : length (leaves sink.ty) ≤ k = let n = parts_long sink.ty parts ep in omega (arith, h, n) in
     sym (append-nil old) ∙ ap (λ xs. old ++ xs) (sym (ap (λ (xs : List Leaf). invalid_parts line sink k xs) (drop_all k (leaves sink.ty) long))) ∙ inv
+
+-- where nothing is written for either side
+
+connects_undriven : (line : ℕ) (sink v : Value) → Undriven sink → Undriven v → (k : ℕ) (ls : List Leaf) (js : List ℕ) → connect_parts line sink v k ls js ≡ []
+connects_undriven line sink v s h k [] js = refl
+connects_undriven line sink v s h k (l ∷ ls) [] = refl
+connects_undriven line sink v s h k (l ∷ ls) (j ∷ js) =
+    ap₂ (λ (xs ys : List Ground). xs ++ ys) (part l.against) (connects_undriven line sink v s h (suc k) ls js)
+  where
+    part : (b : Bool) → connect_part line b sink k v j ≡ []
+    part true = h.nothing line j (Some (sink.part k))
+    part false = s.nothing line k (Some (v.part j))
+
+pub connect_undriven : (line : ℕ) (sink v : Value) (old : List Ground) → Undriven sink → Undriven v → old ≡ old ++ connect_grounds line sink v
+connect_undriven line sink v old s h =
+    sym (append-nil old) ∙ ap (λ xs. old ++ xs) (sym (connects_undriven line sink v s h 0 (leaves sink.ty) (partners sink.ty v.ty)))
+
+invalids_undriven : (line : ℕ) (sink : Value) → Undriven sink → (k : ℕ) (ls : List Leaf) → invalid_parts line sink k ls ≡ []
+invalids_undriven line sink s k [] = refl
+invalids_undriven line sink s k (l ∷ ls) =
+    ap₂ (λ (xs ys : List Ground). xs ++ ys) (part (may_be_driven (if l.against then turned sink.flow else sink.flow))) (invalids_undriven line sink s (suc k) ls)
+  where
+    part : (b : Bool) → (if b then sink.drive line k None else []) ≡ []
+    part true = s.nothing line k None
+    part false = refl
+
+pub invalid_undriven : (line : ℕ) (sink : Value) (old : List Ground) → Undriven sink → old ≡ old ++ invalid_grounds line sink
+invalid_undriven line sink old s = sym (append-nil old) ∙ ap (λ xs. old ++ xs) (sym (invalids_undriven line sink s 0 (leaves sink.ty)))

@@ -1,8 +1,7 @@
 -- One statement written, in front of any rest.
 use Rattle.std.proofs.lemmas.List.{map-append, take_at}
-use Rattle.std.proofs.Common.{Bool, true, false, ◌≡◌, ◌+◌, ◌∙◌, sym, ap, ap₂, ℕ, Option, List, [], ◌∷◌, ◌++◌, length, map, take, subst, refl, arith, append_assoc, OnOk, Result, Ok, Err}
+use Rattle.std.proofs.Common.{Bool, true, false, ◌≡◌, ◌+◌, ◌∙◌, sym, ap, ap₂, ℕ, Option, List, [], ◌∷◌, ◌++◌, length, take, subst, refl, arith, append_assoc, OnOk, Result, Ok, Err}
 use Rattle.std.proofs.Math.Path.{fun_ext}
-use Rattle.std.specs.List.{range_with_len}
 use Rattle.tb_base.specs.declared.memory.Memory.{Memory}
 use Rattle.fir_ast.specs.declared.tree.Expr.{Expr}
 use Rattle.fir_ast.specs.declared.tree.Ty.{Ty}
@@ -17,17 +16,16 @@ use Rattle.net_core.specs.declared.tree.Ground.TheVariants as out
 use Rattle.fir_check.proofs.Unrolled.{stmt-Wire, stmt-Reg}
 use Rattle.fir_flat.specs.declared.kinds.Flow.TheVariants.{Free, Fixed}
 use Rattle.fir_flat.specs.declared.kinds.Known.{Known}
-use Rattle.fir_flat.specs.declared.statements.Reset.{Reset}
 use Rattle.fir_flat.specs.declared.writing.Written.{Written}
 use Rattle.fir_flat.specs.Shapes.{Shape, shape_of, ports_shape, size}
 use Rattle.fir_flat.specs.Bodies.{Body, done, wire, node, reg, inst, connect, invalid, when, level_body, statement, body_of}
 use Rattle.fir_flat.specs.Values.{Bound, bound, value}
 use Rattle.fir_flat.specs.Modules.{module_at, ports_known, taken_up, signals_in, place_of, instance}
-use Rattle.fir_flat.specs.Elaboration.{grounds, declare, reg_part, declare_ports, declared_inside, port_leaves}
+use Rattle.fir_flat.specs.Elaboration.{grounds, declare_ports, declared_inside, port_leaves}
 use Rattle.fir_flat.specs.Kinds.{bound_of, seen}
-use Rattle.fir_flat.specs.Statements.{reg_ground, connect_grounds, invalid_grounds}
+use Rattle.fir_flat.specs.Statements.{connect_grounds, invalid_grounds}
 use Rattle.fir_flat.specs.Ports.{takes}
-use Rattle.fir_flat.specs.Writing.{taken_by, Adds, AddsWire, AddsNode, AddsRegister, AddsInstance, Puts, IsReset, Writes, WritesBlock, own_grounds}
+use Rattle.fir_flat.specs.Writing.{taken_by, Adds, AddsWire, AddsNode, AddsRegister, AddsInstance, Puts, Writes, WritesBlock, own_grounds}
 use Rattle.fir_flat.proofs.Unnumbered.{unnumbered, Alike, type-alike, more-alike}
 use Rattle.fir_flat.proofs.Moved.{whole, body-Node, body-Inst, body-Connect, body-Invalid, body-When}
 
@@ -179,12 +177,6 @@ writes_when modules s l e a b known mid after t v w u cond is ec first m second 
           omega (arith, x, y, next_is);
       kept = ap (take (length known)) g ∙ whole known;
     }
-
--- a register's declarations
-pub registers_same : (line first : ℕ) (known : List Bound) (t : Shape) (reset : Option ResetPair) (r : Option Reset) (n : ℕ) → IsReset known t reset r
-    → map (reg_ground line first r) (range_with_len 0 n) ≡ map (reg_part line first known t reset) (range_with_len 0 n)
-registers_same line first known t reset r n h =
-    ap (λ (f : ℕ → Ground). map f (range_with_len 0 n)) (fun_ext (λ (k : ℕ). ap (declare (first + k) line) (h.same k)))
 
 -- the inputs alone
 pub takes_inputs : takes true false ≡ (λ (input : Bool). input)

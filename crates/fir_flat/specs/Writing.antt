@@ -1,21 +1,20 @@
 -- What is written of a body, statement by statement.
-use Rattle.std.specs.Prelude.{◌≡◌, ℕ, ◌+◌, Bool, Option, List, [], ◌∷◌, ◌++◌, length, take, slice_index, option_map, map}
+use Rattle.std.specs.Prelude.{◌≡◌, ℕ, ◌+◌, Bool, Option, List, [], ◌∷◌, ◌++◌, length, take, slice_index, map}
 use Rattle.std.specs.List.{range_with_len}
 use Rattle.fir_ast.specs.declared.tree.Module.{Module}
 use Rattle.fir_ast.specs.declared.tree.ResetPair.{ResetPair}
 use Rattle.net_core.specs.declared.tree.Ground.{Ground}
 use Rattle.fir_flat.specs.declared.kinds.Flow.TheVariants.{Free, Fixed}
 use Rattle.fir_flat.specs.declared.kinds.Known.{Known}
-use Rattle.fir_flat.specs.declared.statements.Reset.{Reset}
 use Rattle.fir_flat.specs.declared.writing.Written.{Written}
 use Rattle.fir_flat.specs.Shapes.{Shape, size}
 use Rattle.fir_flat.specs.Bodies.{Body}
-use Rattle.fir_flat.specs.Values.{Bound, bound, Value, value}
+use Rattle.fir_flat.specs.Values.{Bound, bound, Value}
 use Rattle.fir_flat.specs.Modules.{module_at, place_of, instance, taken_up, signals_in}
-use Rattle.fir_flat.specs.Elaboration.{grounds, ground_reset, declare_all, reg_part, declare_ports, port_leaves, own_body}
+use Rattle.fir_flat.specs.Elaboration.{grounds, declare_all, reg_part, declare_ports, port_leaves, own_body}
 use Rattle.fir_flat.specs.Counts.{cut}
 use Rattle.fir_flat.specs.Kinds.{seen}
-use Rattle.fir_flat.specs.Statements.{reset_of, node_grounds}
+use Rattle.fir_flat.specs.Statements.{node_grounds}
 
 -- for each module the signals of an instance of it, counted up to one past the limit
 pub record CountsSignals (modules : List Module) (counts : List ℕ) : Type 0 where
@@ -54,10 +53,6 @@ AddsInstance modules name target known after old new =
 pub record Puts (t u : Written) (new : List Ground) : Type 0 where
   pub body : u.body.items ≡ t.body.items ++ new
   pub next : u.next ≡ t.next
-
--- the reset of a register, looked up
-pub record IsReset (known : List Bound) (t : Shape) (reset : Option ResetPair) (r : Option Reset) : Type 0 where
-  pub same : (k : ℕ) → option_map (λ pair. reset_of pair k) r ≡ option_map (λ pair. ground_reset t (value known pair.signal) (value known pair.init) k) reset
 
 -- one statement in front of any rest: what is written and what is still to be written stay the same
 pub record Writes (modules : List Module) (statement : Body → Body) (known after : List Known) (t u : Written) : Type 0 where

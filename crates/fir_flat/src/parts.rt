@@ -1,9 +1,8 @@
 //! The ground parts of types without their names, and the counterparts of one type's in another.
-ghost use Rattle.std.specs.Prelude.{◌≡◌, ◌++◌, ◌∷◌, [], map, true, false, IfOk, OnOk};
+ghost use Rattle.std.specs.Prelude.{◌≡◌, ◌++◌, ◌∷◌, [], map, false, IfOk, OnOk};
 ghost use Rattle.fir_flat.specs.Shapes.{shape_of, fields_shape, ports_shape};
 ghost use Rattle.fir_flat.specs.Kinds.{kind_shape};
 ghost use Rattle.fir_flat.specs.Parts.{turned_parts};
-ghost use Rattle.fir_flat.specs.Resolving.{unsigned};
 
 use crate::kinds::Kind;
 use fir_ast::{Field, Port, Ty};
@@ -92,45 +91,4 @@ pub(crate) fn parts_of_kind(alloc: Global, kind: Kind) -> Result<Vec<Part>, Memo
         Kind::Empty => {}
     }
     Ok(parts)
-}
-
-/// Whether no ground part is an SInt. The time is linear in the size of the type's text.
-#[cycle(unsigned)]
-fn is_unsigned(ty: &Ty) -> bool
-    ensures { result ≡ unsigned (shape_of ty.now) }
-{
-    match ty {
-        Ty::UInt(_) => true,
-        Ty::SInt(_) => false,
-        Ty::Clock => true,
-        Ty::Reset => true,
-        Ty::Bundle(fields) => are_unsigned(fields.as_slice()),
-        Ty::Vector(of, _) => is_unsigned(of.get()),
-    }
-}
-
-#[cycle(unsigned)]
-fn are_unsigned(fields: &[Field]) -> bool
-    ensures { result ≡ unsigned (fields_shape fields.now) }
-{
-    for field in fields {
-        if !is_unsigned(&field.ty) {
-            return false;
-        }
-    }
-    true
-}
-
-/// Whether it is known that no ground part is an SInt. The time is linear in the size of the type's
-/// text.
-pub(crate) fn is_unsigned_kind(kind: Kind) -> bool
-    ensures { result ≡ true → unsigned (kind_shape kind.entry) ≡ true }
-{
-    match kind {
-        Kind::Of(ty) => is_unsigned(ty),
-        Kind::Numbered { types, number } => is_unsigned(types.ty(number)),
-        Kind::Ports(_) => false,
-        Kind::Number(_) => false,
-        Kind::Empty => true,
-    }
 }

@@ -1,9 +1,12 @@
 //! The statements that declarations, connects and invalidations give, one for each ground part.
-ghost use Rattle.std.specs.Prelude.{◌≡◌, ◌++◌, map, IfOk, OnOk, option_map};
+ghost use Rattle.std.specs.Prelude.{◌≡◌, ◌++◌, ℕ, List, Option, map, IfOk, OnOk};
 ghost use Rattle.std.specs.List.{range_with_len};
-ghost use Rattle.fir_flat.specs.Elaboration.{declare_all, connect_part};
-ghost use Rattle.fir_flat.specs.Resolving.{resolved};
-ghost use Rattle.fir_flat.specs.Statements.{node_grounds, reset_of, reg_ground, connect_grounds, invalid_part, invalid_grounds};
+ghost use Rattle.fir_ast.specs.declared.tree.ResetPair.{ResetPair};
+ghost use Rattle.fir_flat.specs.Shapes.{Shape};
+ghost use Rattle.fir_flat.specs.Values.{Bound, Value};
+ghost use Rattle.fir_flat.specs.Elaboration.{declare_all, connect_part, reg_part};
+ghost use Rattle.fir_flat.specs.Resolving.{Resolves};
+ghost use Rattle.fir_flat.specs.Statements.{node_grounds, IsReset, reset_at, connect_grounds, invalid_part, invalid_grounds};
 
 use crate::partners::partners_of;
 use crate::parts::parts_of_kind;
@@ -51,7 +54,7 @@ pub(crate) fn put_node(
     count: u32,
     out: &mut Vec<Ground>,
 ) -> Result<(), Memory>
-    ensures { OnOk result (out.new.items ≡ out.old.items ++ node_grounds line first (resolved value.now) count) }
+    ensures { (v : Value) → Resolves v value.now → OnOk result (out.new.items ≡ out.old.items ++ node_grounds line first v count) }
 {
     for k in 0..count {
         let signal = Signal(plus(first, k)?);
@@ -60,7 +63,7 @@ pub(crate) fn put_node(
             line,
             reset: None,
         })?;
-        let part = value.worth.part(alloc, k)?;
+        let part = value.part(alloc, k)?;
         out.push(Ground::Set {
             line,
             sink: signal,
@@ -71,14 +74,14 @@ pub(crate) fn put_node(
 }
 
 fn reset_at(alloc: Global, reset: &Option<Reset>, k: u32) -> Result<Option<GroundReset>, Memory>
-    ensures { IfOk result (λ r. r ≡ option_map (λ pair. reset_of pair k) reset.now) }
+    ensures { (known : List Bound) (t : Shape) (written : Option ResetPair) → IsReset known t written reset.now → IfOk result (λ r. r ≡ reset_at known t written k) }
 {
     match reset {
         None => Ok(None),
         Some(pair) => {
-            let signal = pair.signal.worth.part(alloc, 0)?;
+            let signal = pair.signal.part(alloc, 0)?;
             let partner = number_at(&pair.partners, k);
-            let init = pair.init.worth.part(alloc, partner)?;
+            let init = pair.init.part(alloc, partner)?;
             Ok(Some(GroundReset { signal, init }))
         }
     }
@@ -93,7 +96,7 @@ pub(crate) fn put_register(
     count: u32,
     out: &mut Vec<Ground>,
 ) -> Result<(), Memory>
-    ensures { OnOk result (out.new.items ≡ out.old.items ++ map (reg_ground line first reset.now) (range_with_len 0 count)) }
+    ensures { (known : List Bound) (t : Shape) (written : Option ResetPair) → IsReset known t written reset.now → OnOk result (out.new.items ≡ out.old.items ++ map (reg_part line first known t written) (range_with_len 0 count)) }
 {
     for k in 0..count {
         let signal = Signal(plus(first, k)?);
@@ -118,14 +121,14 @@ fn put_connect_part(
     partner: u32,
     out: &mut Vec<Ground>,
 ) -> Result<(), Memory>
-    ensures { OnOk result (out.new.items ≡ out.old.items ++ connect_part line against (resolved sink.now) k (resolved value.now) partner) }
+    ensures { (s v : Value) → Resolves s sink.now → Resolves v value.now → OnOk result (out.new.items ≡ out.old.items ++ connect_part line against s k v partner) }
 {
     if against {
-        let part = Some(sink.worth.part(alloc, k)?);
-        value.worth.drive(alloc, line, partner, &part, out)
+        let part = Some(sink.part(alloc, k)?);
+        value.drive(alloc, line, partner, &part, out)
     } else {
-        let part = Some(value.worth.part(alloc, partner)?);
-        sink.worth.drive(alloc, line, k, &part, out)
+        let part = Some(value.part(alloc, partner)?);
+        sink.drive(alloc, line, k, &part, out)
     }
 }
 
@@ -137,7 +140,7 @@ pub(crate) fn put_connect(
     value: &Resolved,
     out: &mut Vec<Ground>,
 ) -> Result<(), Memory>
-    ensures { OnOk result (out.new.items ≡ out.old.items ++ connect_grounds line (resolved sink.now) (resolved value.now)) }
+    ensures { (s v : Value) → Resolves s sink.now → Resolves v value.now → OnOk result (out.new.items ≡ out.old.items ++ connect_grounds line s v) }
 {
     let parts = parts_of_kind(alloc, sink.kind)?;
     let partners = partners_of(alloc, sink.kind, value.kind)?;
@@ -160,7 +163,7 @@ fn put_invalid_part(
     k: u32,
     out: &mut Vec<Ground>,
 ) -> Result<(), Memory>
-    ensures { OnOk result (out.new.items ≡ out.old.items ++ invalid_part line against (resolved sink.now) k) }
+    ensures { (v : Value) → Resolves v sink.now → OnOk result (out.new.items ≡ out.old.items ++ invalid_part line against v k) }
 {
     let flow = if against {
         sink.flow.turned()
@@ -168,7 +171,7 @@ fn put_invalid_part(
         sink.flow
     };
     if flow.may_be_driven() {
-        return sink.worth.drive(alloc, line, k, &None, out);
+        return sink.drive(alloc, line, k, &None, out);
     }
     Ok(())
 }
@@ -180,7 +183,7 @@ pub(crate) fn put_invalid(
     sink: &Resolved,
     out: &mut Vec<Ground>,
 ) -> Result<(), Memory>
-    ensures { OnOk result (out.new.items ≡ out.old.items ++ invalid_grounds line (resolved sink.now)) }
+    ensures { (v : Value) → Resolves v sink.now → OnOk result (out.new.items ≡ out.old.items ++ invalid_grounds line v) }
 {
     let parts = parts_of_kind(alloc, sink.kind)?;
     let mut k = 0;

@@ -2,8 +2,7 @@
 ghost use Rattle.std.specs.Prelude.{◌≡◌, ◌+◌, ◌*◌, ◌++◌, [], false, IfOk, OnOk, slice_index, slice_index_or};
 ghost use Rattle.net_core.specs.declared.tree.GroundExpr.TheVariants as to;
 ghost use Rattle.net_core.specs.declared.tree.Ground.TheVariants as out;
-ghost use Rattle.fir_flat.specs.Values.{selected};
-ghost use Rattle.fir_flat.specs.Worths.{ends_of};
+ghost use Rattle.fir_flat.specs.Worths.{ends_of, sign_place};
 
 use net_core::{Ground, GroundExpr, Signal};
 use sqlite_items::{Boxed, Items};
@@ -21,12 +20,19 @@ pub(crate) enum Worth {
     Indexed {
         of: Boxed<Worth>,
         index: Boxed<Worth>,
-        /// The ground parts of an element.
+        /// How many ground parts lie between those of one element and of the next.
         size: u32,
-        /// Whether each of these is an SInt. Counts only where there is no element.
-        signs: Seq<bool>,
         /// The number of elements.
         count: u32,
+    },
+    /// An element that isn't there. It has two ground parts here: what each UInt of it is worth, a
+    /// literal 0 of width 0, and what each SInt is. Nothing drives it.
+    Missing,
+    /// Ground parts that are each the first of `of` or, where they are an SInt, the second.
+    BySign {
+        of: Boxed<Worth>,
+        /// Whether each is an SInt.
+        signs: Seq<bool>,
     },
     Lit {
         signed: bool,
@@ -88,6 +94,13 @@ fn sign_at(signs: &[bool], k: u32) -> bool
     }
 }
 
+/// The place of a ground part of this sign in what is `Missing`.
+fn sign_place(signed: bool) -> u32
+    ensures { result ≡ sign_place signed }
+{
+    if signed { 1 } else { 0 }
+}
+
 pub(crate) fn number_at(numbers: &[u32], k: u32) -> u32
     ensures { result ≡ slice_index numbers.now k }
 {
@@ -120,7 +133,6 @@ impl Worth {
                 of,
                 index,
                 size,
-                signs,
                 count,
             } => {
                 let mut items = Vec::new(alloc);
@@ -129,7 +141,17 @@ impl Worth {
                     items.push(of.get().part(alloc, place)?)?;
                 }
                 let index = index.get().part(alloc, 0)?;
-                selection(alloc, sign_at(signs.items(), k), index, items)
+                choice(alloc, index, items)
+            }
+            Worth::Missing => Ok(GroundExpr::Lit {
+                signed: k == 1,
+                width: Some(0),
+                negative: false,
+                magnitude: 0,
+            }),
+            Worth::BySign { of, signs } => {
+                let place = sign_place(sign_at(signs.items(), k));
+                of.get().part(alloc, place)
             }
             Worth::Lit {
                 signed,
@@ -194,7 +216,6 @@ impl Worth {
                 of,
                 index,
                 size,
-                signs: _,
                 count,
             } => {
                 for number in 0..*count {
@@ -206,6 +227,8 @@ impl Worth {
                 }
                 Ok(())
             }
+            Worth::Missing => Ok(()),
+            Worth::BySign { of, signs: _ } => of.get().drive(alloc, line, 0, value, out),
             Worth::Lit {
                 signed: _,
                 width: _,
@@ -228,23 +251,10 @@ impl Worth {
     }
 }
 
-/// The item at the index; of no items a literal 0 of width 0.
-fn selection(
-    alloc: Global,
-    signed: bool,
-    index: GroundExpr,
-    items: Vec<GroundExpr>,
-) -> Result<GroundExpr, Memory>
-    ensures { IfOk result (λ e. e ≡ selected signed index items.items) }
+/// The item at the index.
+fn choice(alloc: Global, index: GroundExpr, items: Vec<GroundExpr>) -> Result<GroundExpr, Memory>
+    ensures { IfOk result (λ e. e ≡ to.Select index items.items) }
 {
-    if items.is_empty() {
-        return Ok(GroundExpr::Lit {
-            signed,
-            width: Some(0),
-            negative: false,
-            magnitude: 0,
-        });
-    }
     let index = Boxed::new(alloc, index)?;
     Ok(GroundExpr::Select {
         index,

@@ -1,12 +1,13 @@
 //! The statements of a body, and the numbers of its signals.
-ghost use Rattle.std.specs.Prelude.{◌≡◌, ◌++◌, ◌∷◌, [], IfOk, OnOk};
+ghost use Rattle.std.specs.Prelude.{◌≡◌, ◌++◌, ◌∷◌, [], true, IfOk, OnOk};
 ghost use Rattle.net_core.specs.declared.tree.Ground.TheVariants as out;
 ghost use Rattle.fir_flat.specs.Shapes.{shape_of};
 ghost use Rattle.fir_flat.specs.Bodies.{statement, body_of};
-ghost use Rattle.fir_flat.specs.Values.{value};
+ghost use Rattle.fir_flat.specs.Values.{Value, value};
 ghost use Rattle.fir_flat.specs.Kinds.{seen};
-ghost use Rattle.fir_flat.specs.Statements.{connect_grounds, invalid_grounds};
-ghost use Rattle.fir_flat.specs.Writing.{CountsSignals, AddsWire, AddsNode, AddsRegister, AddsInstance, Puts, IsReset, Writes, WritesBlock};
+ghost use Rattle.fir_flat.specs.Resolving.{Refers, Undriven};
+ghost use Rattle.fir_flat.specs.Statements.{IsReset, connect_grounds, invalid_grounds};
+ghost use Rattle.fir_flat.specs.Writing.{CountsSignals, AddsWire, AddsNode, AddsRegister, AddsInstance, Puts, Writes, WritesBlock};
 
 use crate::counts::exact;
 use crate::directory::Directory;
@@ -14,7 +15,7 @@ use crate::homes::count_at;
 use crate::kinds::{Flow, Kind, Known};
 use crate::partners::partners_of;
 use crate::ports::put_ports;
-use crate::resolve::resolve;
+use crate::resolve::{Reference, is_undriven, resolve, resolve_ground, resolve_used};
 use crate::scope::Scope;
 use crate::sizes::size_of;
 use crate::statements::{
@@ -66,7 +67,7 @@ fn write_node<'a>(
 ) -> Result<(), Memory>
     ensures { OnOk result (AddsNode line name.now (value (seen known.old) expr.now) known.old known.new written.old written.new) }
 {
-    let value = resolve(alloc, known, expr)?;
+    let value = resolve_used(alloc, known, expr)?;
     let size = exact(value.kind.size())?;
     let first = written.next;
     put_node(alloc, line, first, &value, size, &mut written.body)?;
@@ -92,8 +93,8 @@ fn resolve_reset<'a>(
     match reset {
         None => Ok(None),
         Some(pair) => {
-            let signal = resolve(alloc, known, &pair.signal)?;
-            let init = resolve(alloc, known, &pair.init)?;
+            let signal = resolve_used(alloc, known, &pair.signal)?;
+            let init = resolve_used(alloc, known, &pair.init)?;
             let partners = partners_of(alloc, Kind::Of(ty), init.kind)?;
             Ok(Some(Reset {
                 signal,
@@ -156,6 +157,23 @@ fn write_instance<'a>(
     Ok(())
 }
 
+/// Whether it is known of both sides of a connect that nothing is written where they are driven.
+fn are_undriven(
+    alloc: Global,
+    known: &Scope,
+    sink: &Reference,
+    source: &Expr,
+) -> Result<bool, Memory>
+    ensures sink { IfOk result (λ b. b ≡ true → (v : Value) → Refers v sink.now → Undriven v) }
+    ensures source { IfOk result (λ b. b ≡ true → Undriven (value (seen known.now) source.now)) }
+{
+    if sink.is_undriven() {
+        let undriven = is_undriven(alloc, known, source)?;
+        return Ok(undriven);
+    }
+    Ok(false)
+}
+
 fn write_connect(
     alloc: Global,
     line: u32,
@@ -167,7 +185,12 @@ fn write_connect(
     ensures { OnOk result (Puts written.old written.new (connect_grounds line (value (seen known.now) sink.now) (value (seen known.now) source.now))) }
 {
     let sink = resolve(alloc, known, sink)?;
-    let source = resolve(alloc, known, source)?;
+    let undriven = are_undriven(alloc, known, &sink, source)?;
+    if undriven {
+        return Ok(());
+    }
+    let sink = sink.settled(alloc)?;
+    let source = resolve_used(alloc, known, source)?;
     put_connect(alloc, line, &sink, &source, &mut written.body)
 }
 
@@ -181,6 +204,10 @@ fn write_invalid(
     ensures { OnOk result (Puts written.old written.new (invalid_grounds line (value (seen known.now) sink.now))) }
 {
     let sink = resolve(alloc, known, sink)?;
+    if sink.is_undriven() {
+        return Ok(());
+    }
+    let sink = sink.settled(alloc)?;
     put_invalid(alloc, line, &sink, &mut written.body)
 }
 
@@ -232,7 +259,7 @@ fn write_stmt<'a>(
             taken,
             other,
         } => {
-            let cond = resolve(alloc, known, cond)?.worth.part(alloc, 0)?;
+            let cond = resolve_ground(alloc, known, cond)?;
             let taken = write_block(
                 alloc,
                 modules,

@@ -10,8 +10,6 @@ mod examples;
 mod line;
 mod mark;
 mod piece;
-#[cfg(test)]
-mod tests;
 mod text;
 
 pub use examples::{

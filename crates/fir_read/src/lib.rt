@@ -10,8 +10,6 @@ mod blocks;
 mod fault;
 mod modules;
 mod reading;
-#[cfg(test)]
-mod tests;
 mod words;
 
 pub use fault::{ReadFault, What};

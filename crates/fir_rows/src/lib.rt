@@ -13,8 +13,6 @@ mod heads;
 mod resets;
 mod rows;
 mod sinks;
-#[cfg(test)]
-mod tests;
 mod verification;
 mod words;
 

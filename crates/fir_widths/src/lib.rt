@@ -11,8 +11,6 @@ mod judge;
 mod laws;
 mod shape;
 mod solve;
-#[cfg(test)]
-mod tests;
 
 pub use inference::{WidthFault, infer};
 pub use laws::{least_widths_are_one, the_least_widths_are_found, the_rounds_work_out};

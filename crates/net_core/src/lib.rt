@@ -12,8 +12,6 @@ mod engine;
 mod examples;
 mod laws;
 mod ports;
-#[cfg(test)]
-mod tests;
 mod tree;
 
 pub use engine::Engine;

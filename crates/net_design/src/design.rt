@@ -115,6 +115,26 @@ impl Design {
         })
     }
 
+    /// An equal design in memory of its own. The time is linear in the circuit's size and its reads.
+    pub fn copy(&self, alloc: Global) -> Result<Design, Memory>
+        ensures { IfOk result (λ d. d ≡ self.now) }
+    {
+        let name = self.name.copy(alloc)?;
+        let ports = self.ports.copy()?;
+        let elab = self.elab.copy(alloc)?;
+        let net = self.net.copy(alloc)?;
+        let levels = self.levels.copy(alloc)?;
+        let cones = self.cones.copy(alloc)?;
+        Ok(Design {
+            name,
+            ports,
+            elab,
+            net,
+            levels,
+            cones,
+        })
+    }
+
     /// The circuit's name.
     pub fn name(&self) -> &Name
         ensures { result.now ≡ self.now.elab.name }

@@ -103,7 +103,31 @@ pub fn cone_table(alloc: Global, net: &Net, levels: &LevelOrder) -> Result<Cones
     })
 }
 
+fn copy_lists(alloc: Global, lists: &[Seq<u32>]) -> Result<Vec<Seq<u32>>, Memory>
+    ensures { IfOk result (λ v. v.items ≡ lists.now) }
+{
+    let mut copies = Vec::new(alloc);
+    for list in lists {
+        let copy = list.copy(alloc)?;
+        copies.push(copy)?;
+    }
+    Ok(copies)
+}
+
 impl Cones {
+    /// An equal table in memory of its own. The time is linear in the signals and their reads.
+    pub fn copy(&self, alloc: Global) -> Result<Cones, Memory>
+        ensures { IfOk result (λ c. c ≡ self.now) }
+    {
+        let lists = copy_lists(alloc, self.lists.items())?;
+        let sets = self.sets.copy(alloc)?;
+        Ok(Cones {
+            own: self.own,
+            lists: Seq::of(lists),
+            sets,
+        })
+    }
+
     /// Whether the signal depends on the input within a cycle. Constant time; it takes no memory.
     pub fn has(&self, signal: Signal, input: Signal) -> bool
         ensures { result ≡ in_row_of self.now.sets signal.0 input.0 }

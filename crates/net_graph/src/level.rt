@@ -61,6 +61,14 @@ impl LevelOrder {
     {
         self.order.items()
     }
+
+    /// An equal order in memory of its own. The time is linear in its length.
+    pub fn copy(&self, alloc: Global) -> Result<LevelOrder, Memory>
+        ensures { IfOk result (λ o. o ≡ self.now) }
+    {
+        let order = self.order.copy(alloc)?;
+        Ok(LevelOrder { order })
+    }
 }
 
 pub(crate) fn signals_of(alloc: Global, order: &[u32]) -> Result<Seq<Signal>, Memory>

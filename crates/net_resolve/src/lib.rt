@@ -10,8 +10,6 @@ mod collect;
 mod examples;
 mod join;
 mod net;
-#[cfg(test)]
-mod tests;
 mod walk;
 
 pub use examples::the_nets_work_out;

@@ -12,8 +12,6 @@
 mod fault;
 mod item;
 pub mod lex;
-#[cfg(test)]
-mod tests;
 mod tokens;
 
 pub use fault::{Form, Kind, ReadError};

@@ -19,8 +19,8 @@ use Rattle.tl_check.specs.declared.fault.TestFault.{TestFault}
 use Rattle.tl_check.specs.declared.fault.TestFault.TheVariants as check
 use Rattle.tl_check.specs.Faults.{Tells}
 use Rattle.tl_check.specs.Walk.{test_rule}
-use Rattle.bench_core.specs.declared.act.Act.{Act}
-use Rattle.bench_core.specs.Acts.{acts_of}
+use Rattle.bench_lone.specs.declared.act.Act.{Act}
+use Rattle.bench_lone.specs.Acts.{acts_of}
 use Rattle.threadbench.specs.TestForms.{TestRefusal, Faulty, Breaks, NotFirst, read_as, test_in, in_form, unless_broken, ruled, ruled_as}
 use Rattle.threadbench.specs.TestRefusals.{test_refusal_text}
 use Rattle.threadbench.specs.TestAnswers.{TestAnswers, LineOfTestRead, LineOfTestFault}

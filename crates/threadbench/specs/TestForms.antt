@@ -13,8 +13,8 @@ use Rattle.tl_ast.specs.Tests.{place_left}
 use Rattle.tl_ast.specs.declared.tree.TestText.{TestText}
 use Rattle.tl_check.specs.declared.rule.Rule.{Rule}
 use Rattle.tl_check.specs.Walk.{test_rule}
-use Rattle.bench_core.specs.declared.act.Act.{Act}
-use Rattle.bench_core.specs.Acts.{acts_of}
+use Rattle.bench_lone.specs.declared.act.Act.{Act}
+use Rattle.bench_lone.specs.Acts.{acts_of}
 
 -- why the text of a test is refused: it has too many bytes, it spells no test, a line breaks a rule, or a statement isn't in the
 -- first form

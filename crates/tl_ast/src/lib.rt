@@ -10,8 +10,6 @@ mod copy;
 mod examples;
 mod listed;
 mod printing;
-#[cfg(test)]
-mod tests;
 mod tree;
 mod words;
 

@@ -7,8 +7,6 @@
 mod examples;
 mod expansion;
 mod rows;
-#[cfg(test)]
-mod tests;
 
 ghost use Rattle.std.specs.Prelude.{◌≡◌, true, ℕ, List};
 ghost use Rattle.tl_ast.specs.Tests.{spells_test};

@@ -9,8 +9,6 @@ mod examples;
 mod number;
 mod piece;
 mod symbol;
-#[cfg(test)]
-mod tests;
 mod text;
 
 pub use examples::{

@@ -8,8 +8,6 @@ mod notes;
 mod prepared;
 mod runner;
 mod step;
-#[cfg(test)]
-mod tests;
 mod values;
 
 pub use act::Act;

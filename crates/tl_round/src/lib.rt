@@ -9,8 +9,6 @@
 #![tactic(auto)]
 
 mod examples;
-#[cfg(test)]
-mod tests;
 
 ghost use Rattle.std.specs.Prelude.{◌≡◌, List, Some, ℕ};
 ghost use Rattle.tl_ast.specs.Printed.{printed_test};

@@ -15,8 +15,6 @@ mod lists;
 mod ports;
 mod reading;
 mod rows;
-#[cfg(test)]
-mod tests;
 
 pub use fault::TestReadFault;
 pub use laws::{fault_where_none, fronts_go_on, texts_spell_once};

@@ -10,5 +10,3 @@
 pub mod code;
 pub mod examples;
 pub mod laws;
-#[cfg(test)]
-mod tests;

@@ -4,9 +4,6 @@
 //! long expressions, and no more statements and values of drivers than the text has bytes: `WrittenBy` (`specs/Written.antt`).
 #![tactic(auto)]
 
-#[cfg(test)]
-mod tests;
-
 ghost use Rattle.std.specs.Prelude.{◌≤◌, ℕ, List, length};
 ghost use Rattle.tl_ast.specs.Tests.{spells_test};
 ghost use Rattle.tl_ast.specs.declared.tree.TestText.{TestText};

@@ -1,13 +1,28 @@
-use Rattle.std.proofs.Common.{ap, ◌∙◌, refl}
-use Rattle.fir_flat.specs.Kinds.{kind_shape}
+use Rattle.std.proofs.Common.{◌≡◌, refl, subst, IfOk}
+use Rattle.fir_flat.specs.Values.{chosen}
 use Rattle.fir_flat.specs.Worths.{ends_of}
-use Rattle.fir_flat.specs.Resolving.{resolved}
-use Rattle.fir_flat.proofs.ResolveFacts.{resolved-mux}
+use Rattle.fir_flat.specs.Resolving.{Refers, Resolves}
+use Rattle.fir_flat.proofs.LookedUp.{refused}
 use Rattle.fir_flat.proofs.resolve.resolve_mux.Goals as goal
 
+pub returns-in_err-condition : goal.returns-in_err-condition
+returns-in_err-condition c x y z hx hy hz =
+    refused c.from_residual.result _ (Refers (chosen x y z c.args.nums)) c.from_residual.ensures.1
+
+pub returns-in_err-first : goal.returns-in_err-first
+returns-in_err-first c x y z hx hy hz =
+    refused c.from_residual-in_err-first.result _ (Refers (chosen x y z c.args.nums)) c.from_residual-in_err-first.ensures.1
+
+pub returns-in_err-second : goal.returns-in_err-second
+returns-in_err-second c x y z hx hy hz =
+    refused c.from_residual-in_err-second.result _ (Refers (chosen x y z c.args.nums)) c.from_residual-in_err-second.ensures.1
+
+pub same-nums : goal.same-nums
+same-nums c = refl
+
 pub returns : goal.returns
-returns c =
-    resolved-mux (resolved c.args.cond) (resolved c.args.taken) (resolved c.args.other) c.in_ok-cond.cond c.in_ok-taken.taken c.in_ok-other.other
-    (kind_shape c.args.taken.kind) c.of.result c.args.nums
-    (ap ends_of c.in_ok-cond.ensures) (ap ends_of c.in_ok-taken.ensures) (ap ends_of c.in_ok-other.ensures) refl
-    (c.of.ensures ∙ c.in_ok-partners.ensures)
+returns c x y z hx hy hz =
+    c.choose.ensures x y z
+    (subst (λ r. IfOk r (λ w. (ends_of w).part 0 ≡ x.part 0)) c.in_ok-condition.was (c.ground_worth.ensures x hx))
+    (subst (λ r. IfOk r (Resolves y)) c.in_ok-first.was (c.settled.ensures y hy))
+    (subst (λ r. IfOk r (Resolves z)) c.in_ok-second.was (c.settled-2.ensures z hz))

@@ -2,7 +2,7 @@ use Rattle.std.proofs.Common.{ℕ, List, ◌∙◌, ap, subst, OnOk}
 use Rattle.fir_ast.specs.declared.tree.Stmt.{Stmt}
 use Rattle.fir_flat.specs.Shapes.{shape_of}
 use Rattle.fir_flat.specs.Bodies.{statement, body_of}
-use Rattle.fir_flat.specs.Values.{Value, value}
+use Rattle.fir_flat.specs.Values.{value}
 use Rattle.fir_flat.specs.Kinds.{seen}
 use Rattle.fir_flat.specs.Writing.{AddsWire, AddsNode, AddsRegister, AddsInstance, WritesBlock}
 use Rattle.fir_flat.proofs.Moved.{body-Skip, body-Verif}
@@ -63,8 +63,7 @@ write_stmt-returns-in_ok-other-in-When t c =
     (writes_when c.args.modules.now c.args.stmt.now c.in-When.line c.in-When.cond c.in-When.taken c.in-When.other
     c.args.known.now c.write_block.new.known c.write_block-in-When.new.known
     c.args.written.now c.in_ok-taken-in-When.taken c.in_ok-other-in-When.other c.put_when.new.self c.in_ok-cond-in-When.cond c.in-When.is
-    (c.in_ok-cond-in-When.ensures
-    ∙ ap (λ (v : Value). v.part 0) c.in_ok-resolve-in-When.ensures)
+    c.in_ok-cond-in-When.ensures
     (subst (λ (b : List Stmt). WritesBlock c.args.modules.now (body_of b) c.args.known.now c.args.written.now.next c.in_ok-taken-in-When.taken)
     c.as_slice.ensures c.in_ok-taken-in-When.ensures.written)
     c.in_ok-taken-in-When.ensures.known

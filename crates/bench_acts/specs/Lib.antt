@@ -1,0 +1,5 @@
+pub mod Events
+pub mod Observations
+pub mod Behind
+pub mod After
+pub mod Laws

@@ -1,0 +1,4 @@
+pub mod Taken
+pub mod Ends
+pub mod Parts
+mod Sent

@@ -1,0 +1,5 @@
+pub mod Samples
+pub mod Course
+pub mod Taking
+pub mod Ending
+pub mod Laws

@@ -1,0 +1,4 @@
+pub mod Engines
+pub mod Rows
+pub mod SameCones
+pub mod Sent

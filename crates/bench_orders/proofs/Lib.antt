@@ -1,0 +1,4 @@
+pub mod Chosen
+pub mod FirstOrders
+pub mod Speaking
+pub mod Turning

@@ -1,0 +1,8 @@
+pub mod Reaching
+pub mod Origins
+pub mod Bounding
+pub mod Tables
+pub mod Bodies
+pub mod Moves
+pub mod Naming
+pub mod Standing

@@ -1,0 +1,6 @@
+pub mod Pairs
+pub mod Updates
+pub mod Enabling
+pub mod Told
+pub mod Least
+pub mod Edges
