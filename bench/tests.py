@@ -3,8 +3,8 @@
 
     bench/tests.py [PROGRAM]
 
-The shapes are pokes and expects of numbers, which are run, and five that are read and judged by the rules, and then refused, since they
-aren't in the first form: nested blocks, long expressions, many variables, nested forks, and drivers with lists. The sizes are a quarter,
+The shapes are pokes and expects of numbers, nested blocks, long expressions, many variables and nested forks, which are run, and drivers
+with lists, which are read and judged by the rules and then refused, since they aren't in the first form. The sizes are a quarter,
 a half and the whole of a test's limit. PROGRAM is the proved program, crates/threadbench/out/threadbench if not given. What a run with
 an empty test costs is measured too and taken off. Growth is the ratio of what a byte of text costs, from one size to the next: it is
 linear where that is near 1.

@@ -11,7 +11,7 @@ use Rattle.net_core.specs.Ports.{port_entry}
 use Rattle.net_core.specs.Depends.{reads_of}
 use Rattle.net_core.proofs.Trees.{of_declare, of_set, at_read, at_apply}
 use Rattle.net_design.specs.Naming.{leads_within}
-use Rattle.bench_core.specs.Examples.{adder, delay}
+use Rattle.out_text.specs.Examples.{adder, delay}
 use Rattle.out_text.specs.Summary.{cone_names}
 
 any_same : {X : Type 0} (f g : X → Bool) (xs : List X) → ((x : X) → f x ≡ g x) → list_any f xs ≡ list_any g xs

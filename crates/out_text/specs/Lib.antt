@@ -1,4 +1,3 @@
 pub mod Examples
-pub mod Report
 pub mod Steps
 pub mod Summary

@@ -1,10 +1,8 @@
-//! The texts that a run and a circuit are told in.
+//! The text that a circuit is told in.
 #![tactic(auto)]
 
 mod examples;
-mod lines;
 mod outline;
 
-pub use examples::{the_reports_work_out, the_summaries_work_out};
-pub use lines::report;
+pub use examples::the_summaries_work_out;
 pub use outline::summary;

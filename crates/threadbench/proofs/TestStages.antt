@@ -1,5 +1,5 @@
--- What a test's text comes to is told by its acts, or by the fault.
-use Rattle.std.proofs.Common.{◌≡◌, ℕ, List, Option, Some, None, Ok, Err, refl, sym, ap, subst, ◌∙◌}
+-- What a test's text comes to is told by the core test, or by the fault.
+use Rattle.std.proofs.Common.{◌≡◌, ℕ, Bool, true, false, not, List, Option, Some, None, Ok, Err, refl, sym, ap, subst, ◌∙◌}
 use Rattle.std.specs.Prelude.{Result, IsErrAnd}
 use Rattle.tb_base.specs.declared.place.Place.{Place}
 use Rattle.text_grammar.specs.declared.fault.Kind.{Kind}
@@ -17,11 +17,11 @@ use Rattle.tl_check.specs.declared.rule.Rule.{Rule}
 use Rattle.tl_check.specs.declared.rule.Rule.TheVariants as rule
 use Rattle.tl_check.specs.declared.fault.TestFault.{TestFault}
 use Rattle.tl_check.specs.declared.fault.TestFault.TheVariants as check
+use Rattle.tl_check.specs.Checked.{TestFor}
+use Rattle.tl_check.specs.CoreTests.{is_core}
 use Rattle.tl_check.specs.Faults.{Tells}
 use Rattle.tl_check.specs.Walk.{test_rule}
-use Rattle.bench_lone.specs.declared.act.Act.{Act}
-use Rattle.bench_lone.specs.Acts.{acts_of}
-use Rattle.threadbench.specs.TestForms.{TestRefusal, Faulty, Breaks, NotFirst, read_as, test_in, in_form, unless_broken, ruled, ruled_as}
+use Rattle.threadbench.specs.TestForms.{TestRefusal, Faulty, Breaks, NotFirst, read_as, test_in, in_form, unless_broken, for_ports, ruled, ruled_as}
 use Rattle.threadbench.specs.TestRefusals.{test_refusal_text}
 use Rattle.threadbench.specs.TestAnswers.{TestAnswers, LineOfTestRead, LineOfTestFault}
 use Rattle.threadbench.specs.declared.layers.TextFault.{TextFault}
@@ -68,7 +68,7 @@ read_answers text (read.Memory m) line h is = absurd is
 broken : (test : TestText) (ports : List (List ℕ × PortInfo)) (r : Rule) (n : ℕ) → test_rule test ports ≡ Some (r, n)
     → ruled ports test ≡ Err (Breaks r n)
 unfolding ruled
-broken test ports r n h = ap (λ (b : Option (Rule × ℕ)). unless_broken b (acts_of ports test.body)) h
+broken test ports r n h = ap (λ (b : Option (Rule × ℕ)). unless_broken b (for_ports ports test)) h
 
 break_answers : (test : TestText) (ports : List (List ℕ × PortInfo)) (r : Rule) (n : ℕ) (line : List ℕ)
     → test_rule test ports ≡ Some (r, n) → line ≡ test_refusal_text (Breaks r n)
@@ -92,22 +92,29 @@ rule_answers test ports (check.Memory m) line h is = absurd is
 
 -- ---- the first form
 
-pub not_formed : (o : Option (List Act)) (line : List ℕ) → o ≡ None → line ≡ test_refusal_text NotFirst
-    → IsErrAnd (in_form o) (λ w. line ≡ test_refusal_text w)
-not_formed o line h is = refused_by (in_form o) NotFirst line (ap in_form h) is
+pub formed : (core : Bool) (k c : TestFor) → false ≡ not core → c ≡ k → in_form core k ≡ Ok c
+unfolding in_form
+formed true k c h is = ap (λ (x : TestFor). Ok x) (sym is)
+formed false k c h is = absurd cc
+
+pub not_formed : (core : Bool) (k : TestFor) (line : List ℕ) → true ≡ not core → line ≡ test_refusal_text NotFirst
+    → IsErrAnd (in_form core k) (λ w. line ≡ test_refusal_text w)
+unfolding in_form
+not_formed true k line h is = absurd cc
+not_formed false k line h is = is
 
 ruled_form : (test : TestText) (ports : List (List ℕ × PortInfo)) → test_rule test ports ≡ None
-    → ruled ports test ≡ in_form (acts_of ports test.body)
+    → ruled ports test ≡ in_form (is_core test) (for_ports ports test)
 unfolding ruled
-ruled_form test ports h = ap (λ (b : Option (Rule × ℕ)). unless_broken b (acts_of ports test.body)) h
+ruled_form test ports h = ap (λ (b : Option (Rule × ℕ)). unless_broken b (for_ports ports test)) h
 
-pub form_found : (test : TestText) (ports : List (List ℕ × PortInfo)) (acts : List Act) → test_rule test ports ≡ None
-    → acts_of ports test.body ≡ Some acts → ruled ports test ≡ Ok acts
-form_found test ports acts h is = ruled_form test ports h ∙ ap in_form is
+pub form_found : (test : TestText) (ports : List (List ℕ × PortInfo)) (k : TestFor) → test_rule test ports ≡ None
+    → in_form (is_core test) (for_ports ports test) ≡ Ok k → ruled ports test ≡ Ok k
+form_found test ports k h is = ruled_form test ports h ∙ is
 
 pub form_answers : (test : TestText) (ports : List (List ℕ × PortInfo)) (e : TextFault) → test_rule test ports ≡ None
-    → TestAnswers (in_form (acts_of ports test.body)) e → TestAnswers (ruled ports test) e
-form_answers test ports e h is = subst (λ (r : Result (List Act) TestRefusal). TestAnswers r e) (sym (ruled_form test ports h)) is
+    → TestAnswers (in_form (is_core test) (for_ports ports test)) e → TestAnswers (ruled ports test) e
+form_answers test ports e h is = subst (λ (r : Result TestFor TestRefusal). TestAnswers r e) (sym (ruled_form test ports h)) is
 
 -- ---- whole texts
 
@@ -121,8 +128,8 @@ pub text_read : (ports : List (List ℕ × PortInfo)) (r : Result TestText TestR
     → TestAnswers (ruled ports x) e → TestAnswers (ruled_as ports r) e
 text_read ports r x e h is = subst (λ (o : Result TestText TestRefusal). TestAnswers (ruled_as ports o) e) (sym h) is
 
-pub text_found : (ports : List (List ℕ × PortInfo)) (r : Result TestText TestRefusal) (x : TestText) (acts : List Act) → r ≡ Ok x
-    → ruled ports x ≡ Ok acts → ruled_as ports r ≡ Ok acts
-text_found ports r x acts h is = ap (ruled_as ports) h ∙ is
+pub text_found : (ports : List (List ℕ × PortInfo)) (r : Result TestText TestRefusal) (x : TestText) (k : TestFor) → r ≡ Ok x
+    → ruled ports x ≡ Ok k → ruled_as ports r ≡ Ok k
+text_found ports r x k h is = ap (ruled_as ports) h ∙ is
 
 pub ruleset whole_texts = (text_found, text_read, text_unread)

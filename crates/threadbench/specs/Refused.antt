@@ -6,7 +6,7 @@ use Rattle.bench_desk.specs.Meaning.{content}
 use Rattle.net_core.specs.declared.tree.Elab.{Elab}
 use Rattle.threadbench.specs.Answer.{RunLine, CommandLine, Run, Check, Fmt}
 use Rattle.threadbench.specs.Forms.{circuit_in, design_in}
-use Rattle.threadbench.specs.TestForms.{acts_in}
+use Rattle.threadbench.specs.TestForms.{test_in_core}
 
 -- the text is that of a circuit within its limit that runs
 abbrev pub is_circuit : List ℕ → Bool
@@ -16,9 +16,9 @@ is_circuit text = is_ok (design_in text)
 abbrev pub is_spelled : List ℕ → Bool
 is_spelled text = is_ok (circuit_in text)
 
--- the text is that of a test within its limit that breaks no rule for the circuit and is in the first form
+-- the text is that of a test within its limit that breaks no rule for the circuit and has no driver and no reset
 abbrev pub is_test : Elab → List ℕ → Bool
-is_test e text = is_ok (acts_in e text)
+is_test e text = is_ok (test_in_core e text)
 
 -- the line's test is held, and is none for the circuit
 abbrev pub refuses_test_of : Elab → RunLine → List DeskFile → Bool

@@ -1,5 +1,5 @@
--- What the text of a test is to a circuit: the acts of a test in the first form, or why it is refused.
-use Rattle.std.specs.Prelude.{ℕ, List, length, nat_lt, if◌then◌else◌, Some, None, Result, Ok, Err}
+-- What the text of a test is to a circuit: a test without drivers and resets for the circuit's ports, or why it is refused.
+use Rattle.std.specs.Prelude.{ℕ, Bool, true, false, List, length, nat_lt, if◌then◌else◌, Some, None, Result, Ok, Err}
 use Rattle.std.specs.declared.option.Option.{Option}
 use Rattle.tb_base.specs.declared.place.Place.{Place}
 use Rattle.text_grammar.specs.declared.fault.Kind.{Kind}
@@ -12,12 +12,12 @@ use Rattle.tl_ast.specs.TestGrammar.{test}
 use Rattle.tl_ast.specs.Tests.{place_left}
 use Rattle.tl_ast.specs.declared.tree.TestText.{TestText}
 use Rattle.tl_check.specs.declared.rule.Rule.{Rule}
+use Rattle.tl_check.specs.Checked.{TestFor}
+use Rattle.tl_check.specs.CoreTests.{is_core}
 use Rattle.tl_check.specs.Walk.{test_rule}
-use Rattle.bench_lone.specs.declared.act.Act.{Act}
-use Rattle.bench_lone.specs.Acts.{acts_of}
 
--- why the text of a test is refused: it has too many bytes, it spells no test, a line breaks a rule, or a statement isn't in the
--- first form
+-- why the text of a test is refused: it has too many bytes, it spells no test, a line breaks a rule, or a driver or a reset stands in
+-- it, so that it isn't in the first form
 pub data TestRefusal : Type 0 where
   TooLong : TestRefusal
   Faulty : Kind → Place → TestRefusal
@@ -37,27 +37,31 @@ read_as text (Err f) = Err (Faulty f.0 (place_left text f.1))
 unfoldable pub test_in : List ℕ → Result TestText TestRefusal
 test_in text = read_as text ((whole test).reads (items_of text))
 
--- the acts of a test in the first form
-abbrev pub in_form : Option (List Act) → Result (List Act) TestRefusal
-in_form None = Err NotFirst
-in_form (Some acts) = Ok acts
+-- a test that is in the first form
+unfoldable pub in_form : Bool → TestFor → Result TestFor TestRefusal
+in_form false k = Err NotFirst
+in_form true k = Ok k
 
-abbrev pub unless_broken : Option (Rule × ℕ) → Option (List Act) → Result (List Act) TestRefusal
-unless_broken (Some b) acts = Err (Breaks b.0 b.1)
-unless_broken None acts = in_form acts
+abbrev pub unless_broken : Option (Rule × ℕ) → TestFor → Result TestFor TestRefusal
+unless_broken (Some b) k = Err (Breaks b.0 b.1)
+unless_broken None k = in_form (is_core k.test) k
 
--- the acts of a test that breaks no rule
-unfoldable pub ruled : List (List ℕ × PortInfo) → TestText → Result (List Act) TestRefusal
-ruled ports test = unless_broken (test_rule test ports) (acts_of ports test.body)
+-- a test with ports
+abbrev pub for_ports : List (List ℕ × PortInfo) → TestText → TestFor
+for_ports ports test = record { test = test; ports = ports }
 
-abbrev pub ruled_as : List (List ℕ × PortInfo) → Result TestText TestRefusal → Result (List Act) TestRefusal
+-- a test that breaks no rule for the ports
+unfoldable pub ruled : List (List ℕ × PortInfo) → TestText → Result TestFor TestRefusal
+ruled ports test = unless_broken (test_rule test ports) (for_ports ports test)
+
+abbrev pub ruled_as : List (List ℕ × PortInfo) → Result TestText TestRefusal → Result TestFor TestRefusal
 ruled_as ports (Ok test) = ruled ports test
 ruled_as ports (Err r) = Err r
 
--- the acts of a text that isn't too long
-unfoldable pub acts_for : Elab → List ℕ → Result (List Act) TestRefusal
-acts_for e text = ruled_as (ports_of e) (test_in text)
+-- the test of a text that isn't too long, for the circuit's ports
+unfoldable pub test_for : Elab → List ℕ → Result TestFor TestRefusal
+test_for e text = ruled_as (ports_of e) (test_in text)
 
--- the acts of a text on the circuit
-unfoldable pub acts_in : Elab → List ℕ → Result (List Act) TestRefusal
-acts_in e text = if nat_lt test_limit (length text) then Err TooLong else acts_for e text
+-- the test of a text on the circuit
+unfoldable pub test_in_core : Elab → List ℕ → Result TestFor TestRefusal
+test_in_core e text = if nat_lt test_limit (length text) then Err TooLong else test_for e text

@@ -8,7 +8,7 @@
 //!     words     the line that the words are
 //!     reading   a file of the desk, up to its end or to one byte past its limit
 //!     refusal   the line that says why a circuit is refused; test_refusal, why a test is
-//!     layers    from the text of a circuit to its design, and from the text of a test to its actions
+//!     layers    from the text of a circuit to its design, from the text of a test to its core test, and its run
 //!     reply     all refusals and the run, with nothing put
 //!     writing   the reply put on the desk
 //!     top       the two joined

@@ -51,7 +51,7 @@ pub fn rule_refusal(alloc: Global, fault: TestFault) -> Result<Vec<u8>, Memory>
     }
 }
 
-/// The line of a test that isn't in the first form.
+/// The line of a test that isn't in the first form: a driver or a reset stands in it.
 #[tactic(auto, unfolding(crate::specs::TestRefusals::test_refusal_text))]
 pub fn form_refusal(alloc: Global) -> Result<Vec<u8>, Memory>
     ensures { IfOk result (λ v. v.items ≡ test_refusal_text NotFirst) }

@@ -92,7 +92,7 @@ const SIGNED_REPORT: &str = "circuit S
 failed at 0 after 5 actions, 3 records
 ";
 
-const OVERRIDDEN: &str = "circuit Over :
+pub(super) const OVERRIDDEN: &str = "circuit Over :
   module Over :
     input a : UInt<8>
     input b : UInt<8>

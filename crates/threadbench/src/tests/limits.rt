@@ -9,6 +9,9 @@ use std::test::Fail;
 
 const NOT_FIRST: &str = "test: not in the first form\n";
 
+/// The report of a test whose one action is its end.
+const ENDED: &str = "circuit Add\nfinished at 0 after 1 actions, 0 records\n";
+
 /// A text, so many times a piece, and another text.
 fn repeated(
     alloc: Global,
@@ -57,7 +60,7 @@ fn blocks_are_nested_up_to_32(rt: HostRuntime) -> Result<(), Fail> {
     let alloc = rt.alloc();
     let most = repeated(alloc, "", 32, "if 1{", "")?;
     let full = repeated(alloc, most.as_str(), 32, "}", "")?;
-    is_answered(&rt, alloc, full.as_str(), 5, NOT_FIRST)?;
+    is_answered(&rt, alloc, full.as_str(), 0, ENDED)?;
     let past = repeated(alloc, "", 33, "if 1{", "")?;
     is_answered(
         &rt,
@@ -68,14 +71,21 @@ fn blocks_are_nested_up_to_32(rt: HostRuntime) -> Result<(), Fail> {
     )
 }
 
-/// The ninth fork stands behind eight pieces of seven bytes. A driver counts as one.
+/// The ninth fork stands behind eight pieces of seven bytes. A driver counts as one. With eight there are nine threads, each of which but
+/// the last forks, and each of which ends.
 #[test]
 fn forks_are_nested_up_to_8(rt: HostRuntime) -> Result<(), Fail> {
     let alloc = rt.alloc();
     let refusal = "test: line 1 column 57: too deep\n";
     let most = repeated(alloc, "", 8, "fork h{", "")?;
     let full = repeated(alloc, most.as_str(), 8, "}", "")?;
-    is_answered(&rt, alloc, full.as_str(), 5, NOT_FIRST)?;
+    is_answered(
+        &rt,
+        alloc,
+        full.as_str(),
+        0,
+        "circuit Add\nfinished at 0 after 17 actions, 0 records\n",
+    )?;
     let past = repeated(alloc, most.as_str(), 1, "fork h{", "")?;
     is_answered(&rt, alloc, past.as_str(), 5, refusal)?;
     let driver = repeated(alloc, most.as_str(), 1, "enqueue a 1;", "")?;
@@ -87,7 +97,7 @@ fn forks_are_nested_up_to_8(rt: HostRuntime) -> Result<(), Fail> {
 fn an_expression_has_up_to_64_operators(rt: HostRuntime) -> Result<(), Fail> {
     let alloc = rt.alloc();
     let full = repeated(alloc, "let v = 1", 64, "+1", ";")?;
-    is_answered(&rt, alloc, full.as_str(), 5, NOT_FIRST)?;
+    is_answered(&rt, alloc, full.as_str(), 0, ENDED)?;
     let past = repeated(alloc, "let v = 1", 65, "+1", ";")?;
     is_answered(
         &rt,
@@ -104,7 +114,7 @@ fn up_to_32_parentheses_are_open(rt: HostRuntime) -> Result<(), Fail> {
     let alloc = rt.alloc();
     let most = repeated(alloc, "let v = ", 32, "(", "1")?;
     let full = repeated(alloc, most.as_str(), 32, ")", ";")?;
-    is_answered(&rt, alloc, full.as_str(), 5, NOT_FIRST)?;
+    is_answered(&rt, alloc, full.as_str(), 0, ENDED)?;
     let past = repeated(alloc, "let v = ", 33, "(", "1")?;
     is_answered(
         &rt,
@@ -128,7 +138,7 @@ fn names(alloc: Global, count: u32, front: &str, back: &str) -> Result<String, A
 fn up_to_256_variables_are_known(rt: HostRuntime) -> Result<(), Fail> {
     let alloc = rt.alloc();
     let full = names(alloc, 256, "let v", " = 0;")?;
-    is_answered(&rt, alloc, full.as_str(), 5, NOT_FIRST)?;
+    is_answered(&rt, alloc, full.as_str(), 0, ENDED)?;
     let past = names(alloc, 257, "let v", " = 0;")?;
     is_answered(
         &rt,
@@ -139,11 +149,18 @@ fn up_to_256_variables_are_known(rt: HostRuntime) -> Result<(), Fail> {
     )
 }
 
+/// 64 forks, and the ends of 65 threads.
 #[test]
 fn up_to_64_handles_are_known(rt: HostRuntime) -> Result<(), Fail> {
     let alloc = rt.alloc();
     let full = names(alloc, 64, "fork h", " { }")?;
-    is_answered(&rt, alloc, full.as_str(), 5, NOT_FIRST)?;
+    is_answered(
+        &rt,
+        alloc,
+        full.as_str(),
+        0,
+        "circuit Add\nfinished at 0 after 129 actions, 0 records\n",
+    )?;
     let past = names(alloc, 65, "fork h", " { }")?;
     is_answered(
         &rt,

@@ -8,7 +8,7 @@ use std::process::Abort;
 use std::test::Fail;
 
 /// Checks that a run of each test on the circuit has its status and its report.
-fn each_is_answered(
+pub(super) fn each_is_answered(
     rt: &impl Abort,
     alloc: Global,
     circuit: &str,
@@ -120,31 +120,56 @@ fn rules_of_a_queue(rt: HostRuntime) -> Result<(), Fail> {
 }
 
 #[test]
-fn a_checked_test_with_another_statement_is_not_in_the_first_form(
-    rt: HostRuntime,
-) -> Result<(), Fail> {
-    let form = "not in the first form";
+fn statements_that_compute_are_run(rt: HostRuntime) -> Result<(), Fail> {
+    let alone = "circuit Add\nfinished at 0 after 1 actions, 0 records\n";
+    let two = "circuit Add\nfinished at 0 after 2 actions, 0 records\n";
     let rows = [
-        ("poke a = 1 + 2;", form),
-        ("expect out == - 0 + 1;", form),
-        ("let v = 1;", form),
-        ("let v = 1; peek out into v;", form),
-        ("step 1; if 1 { }", form),
-        ("while 0 { }", form),
-        ("repeat 2 { step 1; }", form),
-        ("fork h { } join h;", form),
-        ("fork monitor h { } joinstep h;", form),
+        ("poke a = 1 + 2;", 0, two),
+        (
+            "expect out == - 0 + 1;",
+            1,
+            "circuit Add\n0 / 1 expect out = 0 wanted 1\nfailed at 0 after 2 actions, 1 records\n",
+        ),
+        ("let v = 1;", 0, alone),
+        ("let v = 1; peek out into v;", 0, two),
+        ("while 0 { }", 0, alone),
     ];
-    each_is_refused(&rt, rt.alloc(), ADDER, rows.as_slice())
+    each_is_answered(&rt, rt.alloc(), ADDER, rows.as_slice())
 }
 
 #[test]
-fn numbers_of_a_signed_port(rt: HostRuntime) -> Result<(), Fail> {
+fn blocks_are_run(rt: HostRuntime) -> Result<(), Fail> {
+    let rows = [
+        (
+            "step 1; if 1 { }",
+            0,
+            "circuit Add\nfinished at 1 after 2 actions, 0 records\n",
+        ),
+        (
+            "repeat 2 { step 1; }",
+            0,
+            "circuit Add\nfinished at 2 after 3 actions, 0 records\n",
+        ),
+        (
+            "fork h { } join h;",
+            0,
+            "circuit Add\nfinished at 0 after 4 actions, 0 records\n",
+        ),
+        (
+            "fork monitor h { } joinstep h;",
+            0,
+            "circuit Add\nfinished at 1 after 4 actions, 0 records\n",
+        ),
+    ];
+    each_is_answered(&rt, rt.alloc(), ADDER, rows.as_slice())
+}
+
+#[test]
+fn numbers_that_a_signed_port_cannot_hold(rt: HostRuntime) -> Result<(), Fail> {
     let rows = [
         ("poke a = 8;", "line 1: literal too wide"),
         ("poke a = -9;", "line 1: literal too wide"),
         ("expect out == 16;", "line 1: literal too wide"),
-        ("poke a = -8;", "not in the first form"),
     ];
     each_is_refused(&rt, rt.alloc(), SIGNED, rows.as_slice())
 }
